@@ -11,21 +11,24 @@ from making.sources import TOP, read
 SOURCE = "examples/audit_numbers_again.json"
 WIDE, HIGH, LEFT, COLUMN = 820, 408, 176, 118
 TOKEN, TALL = 56, 24
+# for how many seconds the rollback stands still first
+HOLD = 3.4
 # where rows stand: what the client is told, two logs of each epoch, the storage server
 ROWS = {"client": 74, (257, 0): 138, (257, 1): 170, (513, 0): 238, (513, 1): 270, "storage": 334}
 COLOURS = {"1": ("#1d5fd0", "#7fb0ff"), "2": ("#b4480a", "#ffab70"), "3": ("#6b3fc4", "#c0a2ff")}
 STYLE = """
 text{font:14px system-ui,-apple-system,"Segoe UI","DejaVu Sans",sans-serif;fill:var(--ink)}
-svg{--paper:#f4f5f3;--card:#fff;--ink:#191d23;--soft:#56606c;--line:#cfd4d9;--good:#13693a;--bad:#b42318;--done:#d6efdd;--on:#fff}
+svg{--paper:#f4f5f3;--card:#fff;--ink:#191d23;--soft:#56606c;--line:#cfd4d9;--good:#13693a;--bad:#b42318;--on:#fff}
 @media (prefers-color-scheme:dark){svg{--paper:#0f1317;--card:#171d23;--ink:#e9edf1;--soft:#a3aeba;--line:#333d48;
---good:#74d69a;--bad:#ff9a90;--done:#173b29;--on:#0c1117}}
-.said{font-size:17px;font-weight:600}.soft{fill:var(--soft)}.name{font-weight:600}.number{text-anchor:middle;font-weight:700}
+--good:#74d69a;--bad:#ff9a90;--on:#0c1117}}
+.said{font-size:17px;font-weight:600}.soft{fill:var(--soft)}.name{font-weight:600}
+.number{text-anchor:middle;font-weight:700}
 .axis{fill:var(--soft);font-size:12.5px;text-anchor:middle}.bad{fill:var(--bad)}.good{fill:var(--good)}
 .token rect{stroke-width:2}.full text,.mark text{fill:var(--on)}.mark path{fill:var(--ink)}.mark text{fill:var(--paper)}
 .open rect,.undone rect{fill:var(--card)}.open rect{stroke-width:3.4}.undone rect{stroke-dasharray:5 4}
 .cross{stroke:var(--bad);stroke-width:3;fill:none;stroke-linecap:round}.rail{stroke:var(--line);stroke-dasharray:2 5}
 .band{fill:var(--card);stroke:var(--line)}.cut{stroke:var(--bad);stroke-width:2.4;stroke-dasharray:7 4}
-.done{fill:var(--done)}.lock{fill:none;stroke:var(--soft);stroke-width:1.6}
+.lock{fill:none;stroke:var(--soft);stroke-width:1.6}
 """
 
 
@@ -106,7 +109,8 @@ def token(number, kinds="full"):
     if number is None:
         shape = f'<path d="M3 0H{TOKEN - 3}L{TOKEN - 11} {TALL / 2:g}L{TOKEN - 3} {TALL}H3Z"/>'
         return f'<g class="token mark">{shape}<text class="number" x="{TOKEN / 2 - 3:g}" y="17">M</text></g>'
-    cross = f'<path class="cross" d="M8 5L{TOKEN - 8} {TALL - 5}M8 {TALL - 5}L{TOKEN - 8} 5"/>' if "undone" in kinds else ""
+    cross = f'<path class="cross" d="M8 5L{TOKEN - 8} {TALL - 5}M8 {TALL - 5}L{TOKEN - 8} 5"/>'
+    cross = cross if kinds == "undone" else ""
     words = f'<text class="number" x="{TOKEN / 2:g}" y="17">{number}</text>'
     return f'<g class="token b{number} {kinds}"><rect width="{TOKEN}" height="{TALL}" rx="6"/>{words}{cross}</g>'
 
@@ -151,7 +155,8 @@ class Drawn:
     def held(self, number, what):
         version, place, count = what
         mark = f"The new epoch begins with a mark, at version {version}."
-        words = mark if number is None else f"Log {place[1]} holds batch {number}" + (": now both logs do." if count == 2 else ".")
+        of_batch = f"Log {place[1]} holds batch {number}" + (": now both logs do." if count == 2 else ".")
+        words = mark if number is None else of_batch
         beat = self.film.beat(0.8, words)
         x, y = column(version), ROWS[place]
         start = (0, -26) if number is None else (self.said[number][0] - TOKEN - 8 - x, ROWS["client"] - y)
@@ -183,7 +188,8 @@ class Drawn:
             shown, since, _, start, end = self.film.things[index]
             self.film.things[index] = (shown, since, beat, start, end)
         self.open["rows"] = len(self.film.things)
-        text = f'<text class="said" x="{WIDE - 32}" y="{ROWS["storage"] + 18}" text-anchor="end">{escape(rows_text(after))}</text>'
+        place = f'x="{WIDE - 32}" y="{ROWS["storage"] + 18}" text-anchor="end"'
+        text = f'<text class="said" {place}>{escape(rows_text(after))}</text>'
         self.film.thing(text, beat)
 
     def recovery(self, *_):
@@ -191,7 +197,8 @@ class Drawn:
 
     def locked(self, _, what):
         place, durable = what
-        beat = self.film.beat(2.4, f"Log {place[1]} replies: it holds through version {durable}. More was never acknowledged.")
+        words = f"Log {place[1]} replies: it holds through version {durable}. More was never acknowledged."
+        beat = self.film.beat(2.4, words)
         lock = '<path class="lock" d="M0 7h12v9h-12zM3 7v-3a3 3 0 0 1 6 0v3"/>'
         self.film.thing(at(LEFT - 22, ROWS[place] + 3, lock), beat)
         x = column(durable) + TOKEN + (COLUMN - TOKEN) / 2
@@ -240,53 +247,67 @@ def frame():
     return out
 
 
+def moved(x, y, turn=0):
+    return f"transform:translate({x:g}px,{y:g}px)" + f" rotate({turn}deg)" * bool(turn)
+
+
 def keyframes(name, spans, total, start, end, fade=0.35):
     """An animation: there in these spans of seconds, coming by a way and going by one."""
-    points = []
-    place = lambda x, y, turn=0: f"transform:translate({x:g}px,{y:g}px)" + (f" rotate({turn}deg)" if turn else "")
-    here = f"opacity:1;{place(0, 0)}"
+    points, here = [], "opacity:1;" + moved(0, 0)
     for since, until, comes, goes in spans:
         if comes:
-            points += [(since, f"opacity:0;{place(*start)}"), (since + 0.12, f"opacity:1;{place(*start)}" if any(start) else here)]
+            first = "opacity:1;" + moved(*start) if any(start) else here
+            points += [(since, "opacity:0;" + moved(*start)), (since + 0.12, first)]
         points += [(since + (0.12 + fade * 1.4 if comes else 0), here), (until, here)]
         if goes:
             # (words, which have no end, make room at once)
             slow = 0.05 if end is None else 1.3 if any(end) else fade
-            points += [(until + slow, f"opacity:0;{place(*(end or (0, 0)))}"), (until + slow + 0.01, "opacity:0")]
+            points += [(until + slow, "opacity:0;" + moved(*(end or (0, 0)))), (until + slow + 0.01, "opacity:0")]
     if points[0][0] > 0:
         points.insert(0, (0, "opacity:0"))
     said = "".join(f"{100 * min(when, total) / total:.2f}%{{{how}}}" for when, how in points if when <= total + 0.001)
-    last = points[-1][1]
-    return f"@keyframes {name}{{{said}100%{{{last}}}}}"
+    return f"@keyframes {name}{{{said}100%{{{points[-1][1]}}}}}"
+
+
+def style():
+    """The style of batches, light and dark, behind that of all else."""
+    both = []
+    for at in (0, 1):
+        rows = [(f".b{it}", colours[at]) for it, colours in COLOURS.items()]
+        full = "".join(f"{it}.full rect{{fill:{colour}}}{it} rect{{stroke:{colour}}}" for it, colour in rows)
+        both.append(full + "".join(f"{it}:not(.full) text{{fill:{colour}}}" for it, colour in rows))
+    calm = "@media (prefers-reduced-motion:reduce){g{animation:none!important}}"
+    return STYLE + both[0] + f"@media (prefers-color-scheme:dark){{{both[1]}}}" + calm
+
+
+def moving(drawn):
+    """The styles and the things that come and go, the still of the rollback first."""
+    film, starts, clock = drawn.film, [], HOLD
+    for seconds, _, _ in film.beats:
+        starts.append(clock)
+        clock += seconds
+    words = [(said(text, kind), it, it + 1, (0, 0), None) for it, (_, text, kind) in enumerate(film.beats)]
+    for number, (what, since, until, start, end) in enumerate(film.under + film.things + words):
+        is_still = since <= drawn.still and (until is None or until > drawn.still)
+        stop = starts[until] if until is not None and until < len(starts) else clock
+        spans = [(0, HOLD - 0.3, False, True)] * is_still + [(starts[since], stop, True, stop < clock)]
+        opacity = "" if is_still else ' opacity="0"'
+        shown = f'<g{opacity} style="animation:k{number} {clock:.1f}s linear infinite">{what}</g>'
+        yield keyframes(f"k{number}", spans, clock, start, end), shown
 
 
 def rollback():
     """The picture's text."""
-    drawn = Drawn()
-    film, hold = drawn.film, 3.4
-    starts, clock = [], hold
-    for seconds, _, _ in film.beats:
-        starts.append(clock)
-        clock += seconds
-    total = clock
-    css, shown = [], []
-    words = [(said(text, kind), at_beat, at_beat + 1, (0, 0), None) for at_beat, (_, text, kind) in enumerate(film.beats)]
-    for number, (what, since, until, start, end) in enumerate(film.under + film.things + words):
-        is_still = since <= drawn.still and (until is None or until > drawn.still)
-        begin, stop = starts[since], starts[until] if until is not None and until < len(starts) else total
-        spans = [(0, hold - 0.3, False, True)] if is_still else []
-        spans.append((begin, stop, True, stop < total))
-        css.append(keyframes(f"k{number}", spans, total, start, end))
-        opacity = "" if is_still else ' opacity="0"'
-        shown.append(f'<g{opacity} style="animation:k{number} {total:.1f}s linear infinite">{what}</g>')
-    colours = "".join(f".b{it}.full rect{{fill:{low}}}.b{it} rect{{stroke:{low}}}.b{it}:not(.full) text{{fill:{low}}}" for it, (low, _) in COLOURS.items())
-    dark = "".join(f".b{it}.full rect{{fill:{high}}}.b{it} rect{{stroke:{high}}}.b{it}:not(.full) text{{fill:{high}}}" for it, (_, high) in COLOURS.items())
-    style = STYLE + colours + f"@media (prefers-color-scheme:dark){{{dark}}}"
-    style += "@media (prefers-reduced-motion:reduce){g{animation:none!important}}" + "".join(css)
-    hatch = '<pattern id="hatch" width="9" height="9" patternUnits="userSpaceOnUse"><path d="M-2 2L2 -2M0 9L9 0M7 11L11 7" stroke="#c8554c" stroke-opacity=".55" stroke-width="1.5"/></pattern>'
-    head = f'<svg xmlns="http://www.w3.org/2000/svg" width="{WIDE}" height="{HIGH}" viewBox="0 0 {WIDE} {HIGH}" role="img">'
-    title = "<title>A rollback: a batch that one log of two held is applied, and taken back after a recovery</title>"
-    return "\n".join([head, title, f"<style>{style}</style><defs>{hatch}</defs>", *frame(), *shown, "</svg>"]) + "\n"
+    ways, shown = zip(*moving(Drawn()))
+    hatch = (
+        '<pattern id="hatch" width="9" height="9" patternUnits="userSpaceOnUse"><path d="M-2 2L2 -2M0 9L9 0M7 11L11 7" '
+        'stroke="#c8554c" stroke-opacity=".55" stroke-width="1.5"/></pattern>'
+    )
+    size = f'width="{WIDE}" height="{HIGH}" viewBox="0 0 {WIDE} {HIGH}"'
+    head = f'<svg xmlns="http://www.w3.org/2000/svg" {size} role="img">'
+    title = "<title>A batch that one of two logs held is applied, and taken back after a recovery</title>"
+    head += f"{title}\n<style>{style()}{''.join(ways)}</style><defs>{hatch}</defs>"
+    return "\n".join([head, *frame(), *shown, "</svg>"]) + "\n"
 
 
 def said(text, kind):
