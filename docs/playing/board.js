@@ -132,9 +132,9 @@ class Board {
 
   bands() {
     const { world, isNarrow, unfolded } = this, all = [...world.plans.keys()].sort((a, b) => a - b), newest = world.chosen[world.chosen.length - 1];
-    const bands = all.map((epoch) => ({ epoch, cut: cutOf(world, epoch) })), most = isNarrow ? 2 : 3;
-    // (where there are many, those that were never chosen are folded first, and then the oldest)
-    const live = bands.filter((it) => all.length <= most || this.standing(it)[1] !== "bad" || it.epoch === newest), keep = new Set([...live.slice(-most).map((it) => it.epoch), newest]);
+    // (what never was chosen is folded once a later epoch is, and where there are many the oldest ones)
+    const bands = all.map((epoch) => ({ epoch, cut: cutOf(world, epoch) })), isOver = (it) => this.standing(it)[0] === "not chosen" && it.epoch < newest;
+    const keep = new Set([...bands.filter((it) => !isOver(it)).slice(isNarrow ? -2 : -3).map((it) => it.epoch), newest]);
     return bands.map((it) => ({ ...it, isFolded: !keep.has(it.epoch) && !unfolded.has(it.epoch) }));
   }
   /** An epoch's standing in a word, and its kind. */
@@ -193,7 +193,7 @@ class Board {
     const [x, end] = [this.xOf(first) - this.column / 2, this.xOf(upto) + this.column / 2];
     if (end > x) this.under.push(tag("rect", { x, y: top, width: end - x, height: high, rx: 4, class: "committed" }));
     if (cut === Infinity) return;
-    const last = this.xOf(Math.max(cut + 1, ...world.logsOf(epoch).map((it) => it.machine.durable))) + this.column / 2, begin = Math.max(end, this.left);
+    const most = Math.max(...world.logsOf(epoch).map((it) => it.machine.durable)), last = most > cut ? this.xOf(most) + this.column / 2 : 0, begin = Math.max(end, this.left);
     if (last > begin) this.under.push(tag("rect", { x: begin, y: top, width: last - begin, height: high, class: "cutoff" }));
     if (end >= this.left) this.under.push(tag("path", { d: `M${end} ${top - 3}V${low + 3}`, class: "cut" }));
   }

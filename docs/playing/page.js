@@ -135,7 +135,6 @@ class Page {
     if (own.length && this.nextOfScene() === undefined) return this.back(done);
     const left = this.steps()[done].choices.slice(own.length);
     [this.later, this.queue] = [[], left];
-    if (!left.length) this.show(0);
     this.pace = Math.max(60, Math.min(SPEEDS[at("speed").value], 5200 / left.length));
     this.run();
   }
@@ -248,12 +247,12 @@ class Page {
     at("count").textContent = `step ${this.choices.length}`;
   }
   showScene() {
-    const { done, own } = this.standing(), steps = this.steps(), said = steps[done - 1], isOwn = this.scene && own.length > 0 && this.nextOfScene() === undefined && !this.isMoving;
+    const { done, own } = this.standing(), steps = this.steps(), said = steps[this.isMoving ? done : done - 1], isOwn = this.scene && own.length > 0 && this.nextOfScene() === undefined && !this.isMoving;
     for (const it of at("scenes").children) it.setAttribute("aria-current", it.dataset.scene === (this.scene ? this.scene.name : ""));
     const title = this.scene ? (said ? said.title : this.scene.title) : "Your own run", words = this.scene ? (said ? said.text : this.scene.about) : "Click a proxy to submit a batch, a message to deliver, lose, repeat or delay it, a node to crash it. Step lets the cluster go on by itself.";
     at("title").textContent = title;
     at("text").textContent = isOwn ? "You left the scene and go your own way. Next brings it back to where you left." : words;
-    at("place").textContent = this.scene ? `${this.scene.title} · ${done} of ${steps.length}` : "No scene";
+    at("place").replaceChildren(element("span", this.scene ? `${this.scene.title} · ` : ""), this.scene ? `${done} of ${steps.length}` : "No scene");
     at("dots").replaceChildren(...steps.map((_, each) => element("i", "", { class: each < done ? "done" : "" })));
     at("next").textContent = !this.scene ? "Step" : isOwn ? "Back to the scene" : done < steps.length ? "Next" : "Step on";
     at("back").disabled = !this.choices.length && !done;
