@@ -2,7 +2,7 @@
 from making.sources import read
 
 RULES = ("values", "rules", "recoverer")
-PARTS = ("world", "choices", "facts", "tale", "scenes", "board", "motion", "panel", "page", "doing")
+PARTS = ("world", "choices", "facts", "tale", "scenes", "bands", "board", "motion", "panel", "page", "doing")
 MADE = "<!-- docs/tables makes this page of docs/playing and bench/exploring: change those. -->\n"
 
 

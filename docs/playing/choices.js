@@ -76,7 +76,9 @@ const CHOICES = {
   },
   b: (world, text) => {
     const [m, k] = text ? numbersIn(text, /^(\d{1,2})-(\d{1,2})$/).map(Number) : [];
-    if (text && !(1 <= k && k <= m && m <= 6)) throw new Unfit(`no generation has ${m} logs and each shard on ${k} of them here`);
+    if (text && !(1 <= k && k <= m && m <= 6)) throw new Unfit(
+      `no generation has ${m} logs and each shard on ${k} of them here`
+    );
     if (world.begun >= 60) throw new Unfit("sixty recoveries have begun");
     world.begin(text ? { m, k } : null);
   },
@@ -105,7 +107,10 @@ function nextFetch(world, server) {
   const isFlying = world.flight.some((it) => (it.from === server || it.to === server) && !it.isHeld);
   if (isFlying) return null;
   const text = (word, log) => `${word}${tag}-${epochOf(log.epoch)}-${log.place}`;
-  const newer = [...world.chosen].reverse().find((epoch) => epoch > own && world.logsOf(epoch).some((it) => !it.isGone && it.machine.mark));
+  const newer = [...world.chosen].reverse().find(
+    (epoch) => epoch > own &&
+    world.logsOf(epoch).some((it) => !it.isGone && it.machine.mark)
+  );
   const marked = newer && world.logsOf(newer).find((it) => !it.isGone && it.machine.mark);
   if (marked) return text("m", marked);
   const source = sourceOf(state, version + 1), end = (nextOf(state, source.epoch) ?? { first: Infinity }).first - 1;
@@ -121,7 +126,11 @@ function onward(world) {
   const flying = world.flight.find((it) => !it.isHeld);
   if (flying) return `d${flying.id}`;
   for (const it of world.nodes.values())
-    if (!it.isGone && world.unanswered(it).some(([to]) => !to.isGone) && it.askedAgain !== world.changes) return `a${it.code}`;
+    if (
+      !it.isGone &&
+      world.unanswered(it).some(([to]) => !to.isGone) &&
+      it.askedAgain !== world.changes
+    ) return `a${it.code}`;
   for (const server of world.of("storage")) {
     const fetch = nextFetch(world, server);
     if (fetch) return fetch;
@@ -161,12 +170,47 @@ const DRAWS = [
   [4, (world, pick) => pick(world.flight, (it) => `x${it.id}`)],
   [3, (world, pick) => pick(world.flight.filter((it) => !it.isAgain), (it) => `t${it.id}`)],
   [3, (world, pick) => pick(world.flight, (it) => `h${it.id}`)],
-  [9, (world, pick, draw) => pick(world.of("proxy").filter((it) => !it.isGone && !it.machine.open && !it.machine.ended), (it) => `u${it.code.slice(1)}-${batchDrawn(draw)}`)],
-  [8, (world, pick) => pick([...world.nodes.values()].filter((it) => !it.isGone && world.unanswered(it).length > 0), (it) => `a${it.code}`)],
+  [
+    9,
+    (world, pick, draw) => pick(
+      world.of("proxy").filter((it) => !it.isGone && !it.machine.open && !it.machine.ended),
+      (it) => `u${it.code.slice(1)}-${batchDrawn(draw)}`
+    )
+  ],
+  [
+    8,
+    (world, pick) => pick(
+      [...world.nodes.values()].filter((it) => !it.isGone && world.unanswered(it).length > 0), (it) => `a${it.code}`
+    )
+  ],
   [12, (world, pick) => pick(world.of("storage").map((it) => nextFetch(world, it)).filter(Boolean), (it) => it)],
-  [3, (world, pick) => pick(world.of("storage"), (server) => pick(world.of("log"), (log) => pick(["g", "m"], (word) => `${word}${server.place}-${log.code.slice(1)}`)))],
-  [2, (world, pick) => pick(world.of("storage"), (server) => pick(world.of("log").filter((it) => server.machine.state.gens.some((gen) => gen.epoch === it.epoch)), (log) => `o${server.place}-${log.code.slice(1)}`))],
-  [1.6, (world, pick, draw) => (world.begun < 20 ? (draw() < 0.4 ? `b${pick(["2-1", "2-2", "3-2", "4-2", "4-3", "5-3"], (it) => it)}` : "b") : null)],
+  [
+    3,
+    (world, pick) => pick(
+      world.of("storage"),
+      (server) => pick(
+        world.of("log"), (log) => pick(["g", "m"], (word) => `${word}${server.place}-${log.code.slice(1)}`)
+      )
+    )
+  ],
+  [
+    2,
+    (world, pick) => pick(
+      world.of("storage"),
+      (server) => pick(
+        world.of("log").filter((it) => server.machine.state.gens.some((gen) => gen.epoch === it.epoch)),
+        (log) => `o${server.place}-${log.code.slice(1)}`
+      )
+    )
+  ],
+  [
+    1.6,
+    (world, pick, draw) => (
+      world.begun < 20
+      ? (draw() < 0.4 ? `b${pick(["2-1", "2-2", "3-2", "4-2", "4-3", "5-3"], (it) => it)}` : "b")
+      : null
+    )
+  ],
   [0.7, (world, pick) => pick([...world.nodes.values()].filter((it) => !it.isGone), (it) => `k${it.code}`)],
   [0.3, (world, pick) => pick(world.of("log").filter((it) => !it.isGone), (it) => `L${it.code.slice(1)}`)],
 ];

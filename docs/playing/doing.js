@@ -1,6 +1,22 @@
 "use strict";
 // Buttons and keys of the page, its address and its export.
 
+const KEYS = {
+  ArrowRight: (it) => it.next(),
+  ArrowLeft: (it) => it.back(),
+  ".": (it) => it.step(),
+  ",": (it) => it.undo(),
+  p: (it) => it.play(),
+  s: (it) => it.submit(),
+  r: (it) => it.take("b"),
+  w: (it) => it.blow(),
+  e: (it) => it.export(),
+  c: (it) => it.share(),
+  l: () => at("theme").click(),
+  Escape: (it) => it.select(null),
+  "?": () => (at("help").open = !at("help").open),
+};
+
 Object.assign(Page.prototype, {
   menu() {
     const button = (name, title, about) => {
@@ -8,17 +24,20 @@ Object.assign(Page.prototype, {
       it.onclick = () => this.open(name);
       return it;
     };
-    at("scenes").replaceChildren(...SCENES.map((it) => button(it.name, it.title, it.about)), button("", "Your own run", "An empty cluster"));
+    at("scenes").replaceChildren(
+      ...SCENES.map((it) => button(it.name, it.title, it.about)), button("", "Your own run", "An empty cluster")
+    );
   },
   open(name) {
     this.stop();
     [this.queue, this.later, this.selected] = [[], [], null];
     this.scene = SCENES.find((it) => it.name === name) ?? null;
-    this.replay(this.upto(this.scene ? 1 : 0));
+    this.replay([]);
   },
   /** Selects a proxy that takes a batch: one of the newest epoch where there is one. */
   submit() {
-    const free = this.world.of("proxy").filter((it) => !it.isGone && !it.machine.open && !it.machine.ended), node = free.filter((it) => it.epoch === free[free.length - 1].epoch)[0];
+    const free = this.world.of("proxy").filter((it) => !it.isGone && !it.machine.open && !it.machine.ended);
+    const node = free.find((it) => it.epoch === free[free.length - 1].epoch);
     if (!node) return this.say("No proxy takes a batch now: let the cluster go on, or begin a recovery.");
     this.flush();
     this.select(node.code);
@@ -33,10 +52,11 @@ Object.assign(Page.prototype, {
     return JSON.stringify(this.world.script());
   },
   export() {
-    const link = element("a", "", { href: URL.createObjectURL(new Blob([this.exported() + "\n"], { type: "application/json" })), download: "fdbrec-run.json" });
+    const name = "fdbrec-run.json", blob = new Blob([this.exported() + "\n"], { type: "application/json" });
+    const link = element("a", "", { href: URL.createObjectURL(blob), download: name });
     link.click();
     URL.revokeObjectURL(link.href);
-    this.say("fdbrec-run.json has the journals of all nodes. bench/judge < fdbrec-run.json says whether they kept the rules.");
+    this.say(`${name} has the journals of all nodes. bench/judge < ${name} says whether they kept the rules.`);
   },
   async share() {
     const text = location.href.split("#")[0] + this.address();
@@ -49,24 +69,20 @@ Object.assign(Page.prototype, {
   },
 
   key(event) {
-    if (event.ctrlKey || event.metaKey || event.altKey || /^(INPUT|SELECT|TEXTAREA)$/.test(event.target.tagName)) return;
+    const isTyped = /^(INPUT|SELECT|TEXTAREA)$/.test(event.target.tagName);
+    if (event.ctrlKey || event.metaKey || event.altKey || isTyped) return;
     const shown = event.target.closest?.("[data-key]"), isButton = event.target.closest?.("button, summary, a");
-    const id = /^m:(\d+)$/.exec(shown?.dataset.key ?? "")?.[1] ?? /^m(\d+)$/.exec(this.selected ?? "")?.[1];
-    const ofMessage = { d: "d", x: "x", t: "t", h: "h" }[event.key];
-    const keys = {
-      ArrowRight: () => this.next(), ArrowLeft: () => this.back(), ".": () => this.step(), ",": () => this.undo(), p: () => this.play(), s: () => this.submit(), r: () => this.take("b"), w: () => this.blow(),
-      e: () => this.export(), c: () => this.share(), l: () => at("theme").click(), Escape: () => this.select(null), "?": () => (at("help").open = !at("help").open),
-    };
     if (event.key === "Enter" || event.key === " ") {
-      if (isButton) return;
-      if (shown) return event.preventDefault(), this.press(shown.dataset.key, true);
-      if (event.key === " ") return event.preventDefault(), this.play();
-      return;
+      if (isButton || (!shown && event.key === "Enter")) return;
+      event.preventDefault();
+      return shown ? this.press(shown.dataset.key, true) : this.play();
     }
-    if (!(ofMessage && id) && !keys[event.key]) return;
+    const id = /^m:(\d+)$/.exec(shown?.dataset.key ?? "")?.[1] ?? /^m(\d+)$/.exec(this.selected ?? "")?.[1];
+    const isOfMessage = id && "dxth".includes(event.key), does = KEYS[event.key];
+    if (!isOfMessage && !does) return;
     event.preventDefault();
-    if (ofMessage && id) this.take(ofMessage + id);
-    else keys[event.key]();
+    if (isOfMessage) this.take(event.key + id);
+    else does(this);
   },
   /** A node, a message or a folded epoch is clicked. */
   press(key, byKey = false) {
@@ -82,7 +98,10 @@ Object.assign(Page.prototype, {
     if (byKey) at("card").querySelector(".acts button, button")?.focus();
   },
   listen() {
-    const click = { next: "next", back: "back", play: "play", step: "step", undo: "undo", storm: "blow", submit: "submit", begin: "recover", export: "export", share: "share" };
+    const click = {
+      next: "next", back: "back", play: "play", step: "step", undo: "undo", storm: "blow", submit: "submit",
+      begin: "recover", export: "export", share: "share"
+    };
     for (const [id, name] of Object.entries(click)) at(id).onclick = () => this[name]();
     at("theme").onclick = () => this.theme(document.documentElement.dataset.theme === "dark" ? "light" : "dark");
     at("board").addEventListener("click", (event) => {
@@ -91,6 +110,9 @@ Object.assign(Page.prototype, {
       else this.select(null);
     });
     document.addEventListener("keydown", (event) => this.key(event));
+    addEventListener("hashchange", () => {
+      if (location.hash !== this.written) this.openAddress(new URLSearchParams(location.hash.slice(1)));
+    });
     let wide = 0;
     new ResizeObserver(() => {
       if (at("board").clientWidth === wide) return;

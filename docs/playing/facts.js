@@ -5,7 +5,9 @@
 function issuedOf(world, epoch) {
   const plan = world.plans.get(epoch);
   const front = plan.parent === null ? [] : issuedOf(world, plan.parent).filter((it) => it.version <= plan.rv);
-  const own = [...world.numbered].filter(([key]) => key.startsWith(`${epoch}:`)).map(([, batch]) => ({ version: batch.version, epoch, batch }));
+  const own = [...world.numbered].filter(([key]) => key.startsWith(`${epoch}:`)).map(
+    ([, batch]) => ({ version: batch.version, epoch, batch })
+  );
   return [...front, { version: plan.rv + 1, epoch, batch: null }, ...own.sort((a, b) => a.version - b.version)];
 }
 
@@ -74,9 +76,13 @@ function goneFrom(world, server) {
     const [begin, end] = [CONFIG.shards[tag], CONFIG.shards[tag + 1] ?? null];
     if (!clipped(it.batch.batch, begin, end).length) continue;
     const source = sourceOf(state, it.version) ?? state.gens[0];
-    const newer = world.chosen.filter((epoch) => epoch >= source.epoch && lineOf(world, world.chosen.at(-1)).includes(epoch));
+    const newer = world.chosen.filter(
+      (epoch) => epoch >= source.epoch &&
+      lineOf(world, world.chosen.at(-1)).includes(epoch)
+    );
     const epochs = newer.filter((epoch) => world.plans.get(epoch).pev < it.version);
-    const holds = (log) => !log.isGone && log.machine.holds(tag) && log.machine.durable >= it.version && log.machine.isLeft(tag, it.version);
+    const holds = (log) => !log.isGone && log.machine.holds(tag) && log.machine.durable >= it.version &&
+      log.machine.isLeft(tag, it.version);
     if (!epochs.some((epoch) => world.logsOf(epoch).some(holds))) return it.version;
   }
   return null;
@@ -94,10 +100,13 @@ function fateOf(world, batch) {
   const { version, outcome, isAcknowledged } = batch, all = world.logsOf(batch.epoch).length;
   if (isAcknowledged) return ["acknowledged", `Its client was told: committed at version ${version}.`];
   if (isCutOff(world, batch)) {
-    const cut = cutOf(world, batch.epoch), said = `Version ${version} is above ${cut}, through which the next epoch took over.`;
+    const cut = cutOf(world, batch.epoch), said = `Version ${version} is above ${cut}, through which the next epoch ` +
+      `took over.`;
     return batch.undone.size ? ["taken back", said] : ["not taken over", said];
   }
-  if (isCommitted(world, batch)) return ["committed", "All logs hold it, or the next epoch took it over. Its client was not told."];
+  if (isCommitted(world, batch)) return [
+    "committed", "All logs hold it, or the next epoch took it over. Its client was not told."
+  ];
   if (version === null) return [outcome === "ended" ? "ended" : "no number", "The sequencer has not numbered it."];
   const held = `${holdersCount(world, batch)} of ${all} logs hold it.`;
   return outcome === "ended" ? ["unknown", `Its proxy ended: nothing is said of it. ${held}`] : ["in flight", held];

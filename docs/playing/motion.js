@@ -1,5 +1,5 @@
 "use strict";
-// What moves between two pictures: messages to doors and into nodes, tokens that appear, and what a rollback takes back.
+// What moves between two pictures: messages to doors and into nodes, tokens that appear, what a rollback takes back.
 
 const CALM = matchMedia("(prefers-reduced-motion: reduce)");
 
@@ -11,61 +11,63 @@ class Motion {
   /** Keeps where everything is, before the board is drawn anew. */
   before() {
     this.old = new Map();
-    for (const it of this.board.host.querySelectorAll("[data-key]")) this.old.set(it.dataset.key, { ...placeOf(it), shown: it });
+    for (
+      const it of this.board.host.querySelectorAll("[data-key]")
+    ) this.old.set(it.dataset.key, { ...placeOf(it), shown: it });
   }
-  /** Moves what moved; `slow` is how long a move takes, in milliseconds. */
-  after(slow, choice) {
+  /** Moves what moved; a move takes `slow` milliseconds, and `to` is the node at which a message arrived. */
+  after(slow, choice, to) {
     if (CALM.matches || slow < 40) return;
-    const { board } = this, svg = board.host.firstElementChild, now = new Map();
-    for (const it of svg.querySelectorAll("[data-key]")) now.set(it.dataset.key, it);
+    const now = new Map();
+    for (const it of this.board.host.querySelectorAll("[data-key]")) now.set(it.dataset.key, it);
     for (const [key, it] of now) this.moved(key, it, slow);
-    for (const [key, it] of this.old) if (!now.has(key) && /^[mt]:/.test(key)) this.left(svg, key, it, slow, choice);
+    for (const [key, it] of this.old) {
+      const isArrived = to && key === `m:${choice.slice(1)}`;
+      if (!now.has(key) && /^[mt]:/.test(key)) this.left(it, slow, isArrived ? this.board.anchors.get(to) : null);
+    }
   }
   moved(key, it, slow) {
-    const was = this.old.get(key), { x, y } = placeOf(it);
+    const was = this.old.get(key), is = placeOf(it);
     if (key.startsWith("v:")) return was && was.shown.textContent !== it.textContent && flash(it, slow);
-    if (!was) return this.came(key, it, x, y, slow);
-    if (was.x !== x || was.y !== y) glide(it, was, { x, y }, slow * 0.7);
+    if (!was) return this.came(key, it, is, slow);
+    if (was.x !== is.x || was.y !== is.y) glide(it, was, is, slow * 0.7);
     const isUndone = it.classList.contains("undone") && !was.shown.classList.contains("undone");
     if (isUndone) this.fallen(it, was, slow);
   }
-  came(key, it, x, y, slow) {
-    if (key.startsWith("m:")) {
-      const message = this.board.world.flight.find((each) => `m:${each.id}` === key), from = message && this.board.anchors.get(message.from.code);
-      if (from) return glide(it, { x: from.x + Math.min(from.wide, 100) / 2 - 20, y: from.y + from.high / 2 - 9 }, { x, y }, slow, 0);
-    }
-    if (key.startsWith("t:")) it.animate([{ transform: `translate(${x + 10}px,${y + 8}px) scale(.15)`, opacity: 0 }, { transform: `translate(${x - 3}px,${y - 2}px) scale(1.22)`, opacity: 1, offset: 0.6 }, { transform: `translate(${x}px,${y}px)` }], { duration: slow, easing: "ease-out" });
-    else it.animate([{ opacity: 0 }, { opacity: 1 }], { duration: slow });
+  /** Something new: a message comes from its sender, a token grows. */
+  came(key, it, is, slow) {
+    const message = this.board.world.flight.find((each) => `m:${each.id}` === key);
+    const from = message && this.board.anchors.get(message.from.code);
+    const spot = from && { x: from.x + Math.min(from.wide, 100) / 2 - 20, y: from.y + from.high / 2 - 9 };
+    if (from) return glide(it, spot, is, slow, 0);
+    if (!key.startsWith("t:")) return it.animate([{ opacity: 0 }, { opacity: 1 }], { duration: slow });
+    const small = moment(is.x + 10, is.y + 8, "scale(.15)", { opacity: 0 });
+    const great = moment(is.x - 3, is.y - 2, "scale(1.22)", { opacity: 1, offset: 0.6 });
+    it.animate([small, great, moment(is.x, is.y)], { duration: slow, easing: "ease-out" });
   }
-  /** What is no longer there: a message goes in, or falls; a token fades. */
-  left(svg, key, it, slow, choice) {
-    const ghost = it.shown;
-    ghost.removeAttribute("data-key");
-    ghost.classList.add("ghost");
-    svg.append(ghost);
-    const isLost = choice && choice.startsWith("x"), from = { x: it.x, y: it.y };
-    const end = key.startsWith("m:") && !isLost ? this.goal(key, from, choice) : null;
-    const way = end
-      ? [{ transform: `translate(${from.x}px,${from.y}px)`, opacity: 1 }, { transform: `translate(${end.x}px,${end.y}px) scale(.5)`, opacity: 0.1 }]
-      : [{ transform: `translate(${from.x}px,${from.y}px)`, opacity: 1 }, { transform: `translate(${from.x + 8}px,${from.y + 46}px) rotate(24deg)`, opacity: 0 }];
-    ghost.animate(way, { duration: slow * (end ? 0.6 : 1.2), easing: "ease-in", fill: "forwards" }).onfinish = () => ghost.remove();
+  /** A copy of what was there before, which only moves. */
+  ghost(was) {
+    const it = was.shown;
+    it.removeAttribute("data-key");
+    it.classList.add("ghost");
+    this.board.host.firstElementChild.append(it);
+    return it;
   }
-  goal(key, from, choice) {
-    if (choice !== `d${key.slice(2)}`) return null;
-    let best = null;
-    for (const it of this.board.anchors.values())
-      if (Math.abs(it.door.y - from.y) < 60 && from.x >= it.door.x - 4 && from.x <= it.door.x + it.door.wide + 4 && (!best || Math.abs(it.door.y - from.y) < Math.abs(best.door.y - from.y))) best = it;
-    return best && { x: best.x + Math.min(best.wide, 120) / 2, y: best.y + best.high / 2 };
+  /** What is no longer there: a message goes into its node, all else falls. */
+  left(was, slow, into) {
+    const ghost = this.ghost(was), { x, y } = was;
+    const fall = moment(x + 8, y + 46, "rotate(24deg)", { opacity: 0 }), wide = into ? Math.min(into.wide, 120) : 0;
+    const end = into ? moment(into.x + wide / 2, into.y + into.high / 2, "scale(.5)", { opacity: 0.1 }) : fall;
+    const how = { duration: slow * (into ? 0.6 : 1.2), easing: "ease-in", fill: "forwards" };
+    ghost.animate([moment(x, y, "", { opacity: 1 }), end], how).onfinish = () => ghost.remove();
   }
   /** A batch that is taken back falls out of its lane; what is left is its crossed place. */
   fallen(it, was, slow) {
-    const ghost = was.shown, svg = this.board.host.firstElementChild;
-    ghost.removeAttribute("data-key");
-    ghost.classList.add("ghost");
-    svg.append(ghost);
-    const at = (dx, dy, turn, more = {}) => ({ transform: `translate(${was.x + dx}px,${was.y + dy}px) rotate(${turn}deg)`, ...more });
-    const way = [at(0, 0, 0), at(-3, 0, -9), at(3, 0, 9), at(-3, 0, -9), at(4, -14, 12, { offset: 0.45 }), at(34, 96, 130, { opacity: 0 })];
-    ghost.animate(way, { duration: slow * 3, easing: "ease-in", fill: "forwards" }).onfinish = () => ghost.remove();
+    const ghost = this.ghost(was), { x, y } = was;
+    const by = (dx, dy, turn, more) => moment(x + dx, y + dy, `rotate(${turn}deg)`, more);
+    const shaken = [by(0, 0, 0), by(-3, 0, -9), by(3, 0, 9), by(-3, 0, -9), by(4, -14, 12, { offset: 0.45 })];
+    const how = { duration: slow * 3, easing: "ease-in", fill: "forwards" };
+    ghost.animate([...shaken, by(34, 96, 130, { opacity: 0 })], how).onfinish = () => ghost.remove();
     it.animate([{ opacity: 0 }, { opacity: 0, offset: 0.5 }, { opacity: 1 }], { duration: slow * 3 });
   }
 }
@@ -75,8 +77,12 @@ function placeOf(it) {
   return found ? { x: Number(found[1]), y: Number(found[2]) } : { x: 0, y: 0 };
 }
 
+/** A moment of a move. */
+const moment = (x, y, more = "", rest = {}) => ({ transform: `translate(${x}px,${y}px) ${more}`, ...rest });
+
 function glide(it, from, to, slow, opacity = 1) {
-  it.animate([{ transform: `translate(${from.x}px,${from.y}px)`, opacity }, { transform: `translate(${to.x}px,${to.y}px)`, opacity: 1 }], { duration: slow, easing: "cubic-bezier(.3,.7,.3,1)" });
+  const how = { duration: slow, easing: "cubic-bezier(.3,.7,.3,1)" };
+  it.animate([moment(from.x, from.y, "", { opacity }), moment(to.x, to.y, "", { opacity: 1 })], how);
 }
 
 function flash(it, slow) {

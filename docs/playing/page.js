@@ -3,29 +3,38 @@
 
 const at = (id) => document.getElementById(id);
 const SPEEDS = [900, 420, 190, 70];
+const LEFT = "You left the scene and go your own way. Next brings it back to where you left.";
+const OWN = {
+  title: "Your own run",
+  about:
+    "Click a proxy to submit a batch, a message to deliver, lose, repeat or delay it, a node to crash it. " +
+    "Step lets the cluster go on by itself.",
+};
 
 class Page {
   constructor() {
     this.board = new Board(at("board"));
     this.motion = new Motion(this.board);
-    Object.assign(this, { scene: null, choices: [], later: [], story: [], queue: [], selected: null, timer: null, storm: null, isPlaying: false, isOpen: false });
-    this.words = new URLSearchParams(location.hash.slice(1));
-    this.theme(this.words.get("theme") || (matchMedia("(prefers-color-scheme: dark)").matches ? "dark" : "light"));
+    Object.assign(this, { scene: null, choices: [], later: [], story: [], queue: [], selected: null });
+    Object.assign(this, { timer: null, storm: null, isPlaying: false, isMoving: false, written: "" });
+    const words = new URLSearchParams(location.hash.slice(1));
+    const isDark = matchMedia("(prefers-color-scheme: dark)").matches;
+    this.theme(words.get("theme") || (isDark ? "dark" : "light"));
     this.menu();
     this.listen();
-    this.openAddress(this.words);
-    addEventListener("hashchange", () => location.hash !== this.written && this.openAddress(new URLSearchParams(location.hash.slice(1))));
+    this.openAddress(words);
   }
 
   // ---- where one is
 
   /** Opens what an address says: a scene with a step, choices of its own, or the first scene. */
   openAddress(words) {
-    const scene = SCENES.find((it) => it.name === words.get("scene")), own = (words.get("then") || words.get("run") || "").split(".").filter(Boolean);
+    const scene = SCENES.find((it) => it.name === words.get("scene"));
+    const given = words.get("then") || words.get("run") || "";
     this.scene = scene ?? (words.has("run") ? null : SCENES[0]);
     const step = Math.max(0, Math.min(Number(words.get("step")) || 0, this.steps().length));
     this.stop();
-    this.replay([...this.upto(step), ...own]);
+    this.replay([...this.upto(step), ...given.split(".").filter(Boolean)]);
     if (words.get("select")) this.select(words.get("select"));
   }
   steps() {
@@ -38,7 +47,8 @@ class Page {
   /** How many of the scene's steps were done, and how many choices of one's own came behind them. */
   standing() {
     let done = 0, count = 0;
-    const steps = this.steps(), isDone = (it) => it.choices.every((choice, each) => this.choices[count + each] === choice);
+    const steps = this.steps(), isSo = (choice, each) => this.choices[count + each] === choice;
+    const isDone = (it) => it.choices.every(isSo);
     while (done < steps.length && isDone(steps[done])) count += steps[done++].choices.length;
     return { done, own: this.choices.slice(count) };
   }
@@ -47,6 +57,14 @@ class Page {
     if (this.scene) words.set("scene", this.scene.name), words.set("step", done);
     if (own.length || !this.scene) words.set(this.scene ? "then" : "run", own.join("."));
     return "#" + words;
+  }
+  /** Writes the address, but not at each step of many: browsers refuse that. */
+  write() {
+    clearTimeout(this.writing);
+    this.writing = setTimeout(() => {
+      this.written = this.address();
+      history.replaceState(null, "", this.written);
+    }, 250);
   }
 
   // ---- choices
@@ -76,6 +94,7 @@ class Page {
   }
   /** Makes one choice and shows what comes of it. */
   make(choice, slow = SPEEDS[at("speed").value]) {
+    const arrives = this.world.flight.find((it) => choice === `d${it.id}`);
     try {
       this.enter(choice);
     } catch (fault) {
@@ -83,7 +102,7 @@ class Page {
       this.say(capital(fault.message) + ".");
       return false;
     }
-    this.show(slow, choice);
+    this.show(slow, choice, arrives && arrives.to.code);
     return true;
   }
   /** A choice of the person. */
@@ -134,7 +153,7 @@ class Page {
     if (!this.scene || done >= this.steps().length) return this.step();
     if (own.length && this.nextOfScene() === undefined) return this.back(done);
     const left = this.steps()[done].choices.slice(own.length);
-    [this.later, this.queue] = [[], left];
+    [this.later, this.queue, this.aim] = [[], left, done];
     this.pace = Math.max(60, Math.min(SPEEDS[at("speed").value], 5200 / left.length));
     this.run();
   }
@@ -151,8 +170,7 @@ class Page {
       this.isMoving = false;
       this.show(0);
       this.reveal();
-      if (this.isPlaying) this.timer = setTimeout(() => this.playOn(), 5 * SPEEDS[at("speed").value] + 1600);
-      return;
+      return this.rest();
     }
     this.isMoving = true;
     if (!this.make(this.queue.shift(), this.pace)) this.queue = [];
@@ -165,8 +183,13 @@ class Page {
     this.queue = [];
     this.isMoving = false;
     for (const it of left) this.enter(it);
-    if (left.length) this.show(0);
-    if (left.length && this.isPlaying) this.timer = setTimeout(() => this.playOn(), 5 * SPEEDS[at("speed").value] + 1600);
+    if (!left.length) return;
+    this.show(0);
+    this.rest();
+  }
+  /** While it plays, leaves time to read what a step says. */
+  rest() {
+    if (this.isPlaying) this.timer = setTimeout(() => this.playOn(), 5 * SPEEDS[at("speed").value] + 1600);
   }
 
   // ---- play
@@ -180,8 +203,7 @@ class Page {
   playOn() {
     clearTimeout(this.timer);
     if (!this.isPlaying) return;
-    const { done, own } = this.standing(), isScene = this.scene && done < this.steps().length && !(own.length && this.nextOfScene() === undefined);
-    if (isScene && !this.later.length) return this.next();
+    if (this.scene && !this.later.length && this.nextOfScene() !== undefined) return this.next();
     if (!this.one()) return this.stop();
     this.timer = setTimeout(() => this.playOn(), SPEEDS[at("speed").value]);
   }
@@ -209,14 +231,13 @@ class Page {
 
   // ---- what is shown
 
-  show(slow, choice) {
+  show(slow, choice, to) {
     const focus = document.activeElement?.dataset?.key;
     this.motion.before();
     this.board.draw(this.world, this.selected);
-    if (slow) this.motion.after(slow, choice);
+    if (slow) this.motion.after(slow, choice, to);
     if (focus) this.board.host.querySelector(`[data-key="${CSS.escape(focus)}"]`)?.focus({ preventScroll: true });
-    this.written = this.address();
-    history.replaceState(null, "", this.written);
+    this.write();
     this.showScene();
     this.showNow();
     listBatches(this.world, at("batches"));
@@ -233,28 +254,38 @@ class Page {
     const shown = node && innerWidth <= 760 && this.board.host.querySelector(`[data-key="n:${node.code}"]`);
     if (!shown) return;
     const { top, bottom } = shown.getBoundingClientRect(), low = at("told").getBoundingClientRect().top;
-    if (top < 60 || bottom > low - 30) scrollBy({ top: (top + bottom) / 2 - low / 2 - 20, behavior: CALM.matches ? "auto" : "smooth" });
+    const behavior = CALM.matches ? "auto" : "smooth";
+    if (top < 60 || bottom > low - 30) scrollBy({ top: (top + bottom) / 2 - low / 2 - 20, behavior });
   }
+  /** How the promise stands: what was acknowledged, and whether all of it is kept. */
   showPromise() {
-    const { count, broken } = promiseOf(this.world), isGone = this.world.of("storage").some((it) => goneFrom(this.world, it) !== null);
-    at("promise").className = broken.length || isGone ? "bad" : count ? "good" : "none";
-    const words = broken.length ? `${broken.length} of ${count} acknowledged not kept` : isGone ? `${count} acknowledged, part of it on no log` : `${count} acknowledged, all kept`;
-    at("promise").textContent = count || broken.length || isGone ? words : "nothing acknowledged yet";
+    const { count, broken } = promiseOf(this.world), servers = this.world.of("storage");
+    const isGone = servers.some((it) => goneFrom(this.world, it) !== null), isBad = broken.length > 0 || isGone;
+    const kept = isGone ? `${count} acknowledged, part of it on no log` : `${count} acknowledged, all kept`;
+    const words = broken.length ? `${broken.length} of ${count} acknowledged not kept` : kept;
+    at("promise").className = isBad ? "bad" : count ? "good" : "none";
+    at("promise").textContent = count || isBad ? words : "nothing acknowledged yet";
   }
   showNow() {
-    const last = this.story[this.story.length - 1];
-    at("now").replaceChildren(...(last ? last.sentences.map((it) => element("p", it.text, { class: it.kind })) : [element("p", "Nothing has happened yet.", { class: "small" })]));
+    const last = this.story[this.story.length - 1], nothing = { text: "Nothing has happened yet.", kind: "small" };
+    const said = last ? last.sentences : [nothing];
+    at("now").replaceChildren(...said.map((it) => element("p", it.text, { class: it.kind })));
     at("count").textContent = `step ${this.choices.length}`;
   }
+  /** The card of the scene: what its step says, while it is played and once it is done. */
   showScene() {
-    const { done, own } = this.standing(), steps = this.steps(), said = steps[this.isMoving ? done : done - 1], isOwn = this.scene && own.length > 0 && this.nextOfScene() === undefined && !this.isMoving;
-    for (const it of at("scenes").children) it.setAttribute("aria-current", it.dataset.scene === (this.scene ? this.scene.name : ""));
-    const title = this.scene ? (said ? said.title : this.scene.title) : "Your own run", words = this.scene ? (said ? said.text : this.scene.about) : "Click a proxy to submit a batch, a message to deliver, lose, repeat or delay it, a node to crash it. Step lets the cluster go on by itself.";
-    at("title").textContent = title;
-    at("text").textContent = isOwn ? "You left the scene and go your own way. Next brings it back to where you left." : words;
-    at("place").replaceChildren(element("span", this.scene ? `${this.scene.title} · ` : ""), this.scene ? `${done} of ${steps.length}` : "No scene");
+    const { done, own } = this.standing(), steps = this.steps(), said = steps[this.isMoving ? this.aim : done - 1];
+    const { title, about } = this.scene ?? OWN, isOff = own.length > 0 && this.nextOfScene() === undefined;
+    const isOwn = this.scene && isOff && !this.isMoving;
+    const name = this.scene?.name ?? "";
+    for (const it of at("scenes").children) it.setAttribute("aria-current", it.dataset.scene === name);
+    at("title").textContent = said ? said.title : title;
+    at("text").textContent = isOwn ? LEFT : said ? said.text : about;
+    const where = this.scene ? [element("span", `${title} · `), `${done} of ${steps.length}`] : ["No scene"];
+    at("place").replaceChildren(...where);
     at("dots").replaceChildren(...steps.map((_, each) => element("i", "", { class: each < done ? "done" : "" })));
-    at("next").textContent = !this.scene ? "Step" : isOwn ? "Back to the scene" : done < steps.length ? "Next" : "Step on";
+    const ahead = done < steps.length ? "Next" : "Step on";
+    at("next").textContent = !this.scene ? "Step" : isOwn ? "Back to the scene" : ahead;
     at("back").disabled = !this.choices.length && !done;
   }
   select(selected) {
@@ -266,20 +297,24 @@ class Page {
     const card = this.selected && cardOf(this.world, this.selected, this), had = !at("card").hidden;
     at("card").hidden = !card;
     if (!card) return (this.selected = null);
-    const close = element("button", "✕", { type: "button", class: "close", "aria-label": "Close" }), inside = at("card").contains(document.activeElement);
+    const close = element("button", "✕", { type: "button", class: "close", "aria-label": "Close" });
+    const isInside = had && at("card").contains(document.activeElement);
     close.onclick = () => this.select(null);
     at("card").replaceChildren(close, ...card);
-    if (inside && had) at("card").querySelector(".acts button, button")?.focus({ preventScroll: true });
+    if (isInside) at("card").querySelector(".acts button, button")?.focus({ preventScroll: true });
     this.placeCard();
   }
+  /** Puts the card below what was chosen, or above it where there is no room; on a small screen it is at the bottom. */
   placeCard() {
-    const card = at("card"), { board } = this, key = /^m\d/.test(this.selected) ? `m:${this.selected.slice(1)}` : `n:${this.selected}`;
-    const shown = board.host.querySelector(`[data-key="${CSS.escape(key)}"]`);
+    const card = at("card"), key = this.selected.replace(/^m(?=\d)/, "m:");
+    const name = key === this.selected ? `n:${key}` : key;
+    const shown = this.board.host.querySelector(`[data-key="${CSS.escape(name)}"]`), wide = 330;
     if (innerWidth <= 760 || !shown) return card.removeAttribute("style");
-    const it = shown.getBoundingClientRect(), stage = at("stage").getBoundingClientRect(), wide = 330;
-    const x = Math.max(8, Math.min(it.left - stage.left, stage.width - wide - 8)), below = it.bottom - stage.top + 8;
-    const isAbove = it.bottom + card.offsetHeight + 16 > Math.max(innerHeight, stage.bottom) && it.top - stage.top > card.offsetHeight + 8;
-    card.style.cssText = `left:${x}px;top:${isAbove ? it.top - stage.top - card.offsetHeight - 8 : below}px;width:${wide}px`;
+    const it = shown.getBoundingClientRect(), stage = at("stage").getBoundingClientRect(), high = card.offsetHeight;
+    const x = Math.max(8, Math.min(it.left - stage.left, stage.width - wide - 8));
+    const isAbove = it.bottom + high + 16 > Math.max(innerHeight, stage.bottom) && it.top - stage.top > high + 8;
+    const y = isAbove ? it.top - stage.top - high - 8 : it.bottom - stage.top + 8;
+    card.style.cssText = `left:${x}px;top:${y}px;width:${wide}px`;
   }
   buttons() {
     at("play").textContent = this.isPlaying ? "❚❚ Pause" : "▶ Play";

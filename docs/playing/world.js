@@ -15,7 +15,9 @@ class Unfit extends Error {}
 
 class Member {
   constructor(kind, value, machine, code, label) {
-    Object.assign(this, { kind, value: { [kind]: value }, machine, code, label, entries: [], isGone: false, askedAgain: -1 });
+    Object.assign(
+      this, { kind, value: { [kind]: value }, machine, code, label, entries: [], isGone: false, askedAgain: -1 }
+    );
     this.epoch = value.epoch ?? value.ballot ?? null;
   }
   get place() {
@@ -26,13 +28,17 @@ class Member {
 
 class World {
   constructor() {
-    Object.assign(this, { nodes: new Map(), flight: [], sent: 0, stamp: 0, choices: [], begun: 0, news: [], changes: 0 });
+    Object.assign(
+      this, { nodes: new Map(), flight: [], sent: 0, stamp: 0, choices: [], begun: 0, news: [], changes: 0 }
+    );
     Object.assign(this, { batches: [], numbered: new Map(), plans: new Map(), takers: new Map(), chosen: [FIRST] });
     const { coordinators, degree, logs, shards } = CONFIG;
     const first = { dropped: 0, gens: [{ epoch: FIRST, first: 1, k: degree, m: logs, seeded_to: 0 }] };
     for (let index = 0; index < coordinators; index++)
       this.add("cell", { index }, new Cell(stateSpelled(first)), `c${index}`, `coordinator ${index}`);
-    shards.forEach((_, tag) => this.add("storage", { tag }, new Storage(tag, first), `s${tag}`, `storage ${SHARDS[tag]}`));
+    shards.forEach(
+      (_, tag) => this.add("storage", { tag }, new Storage(tag, first), `s${tag}`, `storage ${SHARDS[tag]}`)
+    );
     this.plans.set(FIRST, { parent: null, pev: 0, rv: 0, state: first });
     this.makeLogs(FIRST, logs, degree);
     for (const log of this.logsOf(FIRST)) {
@@ -68,7 +74,8 @@ class World {
   /** The node of a value as journals have it. */
   nodeOf(value) {
     const [kind, it] = variant(value), number = epochOf(it.epoch ?? it.ballot ?? FIRST);
-    return this.node({ cell: `c${it.index}`, storage: `s${it.tag}`, log: `l${number}-${it.index}`, sequencer: `q${number}`,
+    return this.node({ cell: `c${it.index}`, storage: `s${it.tag}`, log: `l${number}-${it.index}`,
+      sequencer: `q${number}`,
       proxy: `p${number}-${it.number}`, recoverer: `r${number}` }[kind]);
   }
   node(code) {
@@ -91,7 +98,10 @@ class World {
   /** The script of an audit: each node that did something, and where it stands now. */
   script() {
     const journals = [...this.nodes.values()].filter((it) => it.entries.length > 0 || it.kind === "storage");
-    return { config: CONFIG, journals: journals.map((it) => ({ entries: it.entries, last: { [it.kind]: it.machine.last() }, node: it.value })) };
+    return {
+      config: CONFIG,
+      journals: journals.map((it) => ({ entries: it.entries, last: { [it.kind]: it.machine.last() }, node: it.value }))
+    };
   }
 
   // ---- messages
@@ -171,7 +181,8 @@ class World {
       batch.undone.delete(place);
     }
     if (got.cut === undefined) return;
-    const isTaken = (it) => it.applied.has(place) && it.version > got.to && it.version <= got.from && lineOf(this, epoch).includes(it.epoch);
+    const isTaken = (it) => it.applied.has(place) && it.version > got.to && it.version <= got.from && lineOf(this,
+      epoch).includes(it.epoch);
     got.batches = this.batches.filter(isTaken);
     for (const batch of got.batches) {
       batch.applied.delete(place);
@@ -198,9 +209,13 @@ class World {
   }
   pendingOfProxy(node) {
     const { epoch, number, request, place, known, held, batch } = node.machine;
-    if (place === null) return [[this.node(`q${epochOf(epoch)}`), { seq: { next: { proxy: number, request, step: batch.step } } }]];
+    if (place === null) return [
+      [this.node(`q${epochOf(epoch)}`), { seq: { next: { proxy: number, request, step: batch.step } } }]
+    ];
     return this.logsOf(epoch).filter((it) => !held.has(it.place)).map((log) => {
-      const bodies = CONFIG.shards.map((begin, tag) => [tag, clipped(batch.batch, begin, CONFIG.shards[tag + 1] ?? null)]);
+      const bodies = CONFIG.shards.map(
+        (begin, tag) => [tag, clipped(batch.batch, begin, CONFIG.shards[tag + 1] ?? null)]
+      );
       const own = bodies.filter(([tag, part]) => part.length > 0 && log.machine.holds(tag));
       return [log, { log: { push: { bodies: own, epoch, known, mark: null, ...place } } }];
     });
@@ -213,7 +228,10 @@ class World {
   /** The asks that a node waits for and that are lost: neither they nor what is told to them is in flight. */
   unanswered(node) {
     const isThere = (to, ask) =>
-      this.flight.some((it) => (it.kind === "ask" && it.from === node && it.to === to && isSame(it.what, ask)) || (it.kind === "tell" && it.to === node && it.from === to && isSame(it.of, ask)));
+      this.flight.some(
+        (it) => (it.kind === "ask" && it.from === node && it.to === to && isSame(it.what, ask)) ||
+        (it.kind === "tell" && it.to === node && it.from === to && isSame(it.of, ask))
+      );
     return this.pending(node).filter(([to, ask]) => !isThere(to, ask));
   }
   again(node) {
@@ -232,7 +250,9 @@ class World {
     const before = this.pending(node), step = 1;
     it.submit({ batch, step });
     this.enter(node, { submitted: { batch, step } });
-    node.batch = { number: this.batches.length + 1, node, epoch: node.epoch, request: it.request, batch, version: null, prev: null };
+    node.batch = {
+      number: this.batches.length + 1, node, epoch: node.epoch, request: it.request, batch, version: null, prev: null
+    };
     Object.assign(node.batch, { outcome: null, isAcknowledged: false, applied: new Set(), undone: new Set() });
     this.batches.push(node.batch);
     this.tell("submitted", { node, batch: node.batch });
@@ -241,7 +261,9 @@ class World {
   begin(shape) {
     this.begun += 1;
     const ballot = ballotOf(this.begun + 1), m = shape ? shape.m : null;
-    const node = this.add("recoverer", { ballot }, new Recoverer(ballot, CONFIG, shape), `r${this.begun + 1}`, `recoverer ${this.begun + 1}`);
+    const node = this.add(
+      "recoverer", { ballot }, new Recoverer(ballot, CONFIG, shape), `r${this.begun + 1}`, `recoverer ${this.begun + 1}`
+    );
     this.enter(node, { begun: shape ? { degree: shape.k, logs: m } : {} });
     this.tell("begun", { node, shape });
     this.sendNew(node, []);
@@ -260,8 +282,14 @@ class World {
   /** A storage server asks a log: for records, for the mark, or to let its records go. */
   askLog(server, log, word) {
     const { tag, version, floor, state } = server.machine, { epoch } = log;
-    if (word === "pop" && !state.gens.some((it) => it.epoch === epoch)) throw new Unfit(`${server.label} has no generation ${epochOf(epoch)}`);
-    const ask = { peek: { peek: { after: version, epoch, most: MOST_PEEKED, tag } }, mark: { mark_asked: { epoch } }, pop: { pop: { epoch, tag, through: floor } } };
+    if (
+      word === "pop" &&
+      !state.gens.some((it) => it.epoch === epoch)
+    ) throw new Unfit(`${server.label} has no generation ${epochOf(epoch)}`);
+    const ask = {
+      peek: { peek: { after: version, epoch, most: MOST_PEEKED, tag } }, mark: { mark_asked: { epoch } },
+      pop: { pop: { epoch, tag, through: floor } }
+    };
     this.send("ask", server, log, { log: ask[word] });
     this.tell("fetch", { server, log, word });
   }
