@@ -4,8 +4,8 @@
 const CALM = matchMedia("(prefers-reduced-motion: reduce)");
 
 class Motion {
-  constructor(board) {
-    this.board = board;
+  constructor(board, ghosts) {
+    Object.assign(this, { board, ghosts });
     this.old = new Map();
   }
   /** Keeps where everything is, before the board is drawn anew. */
@@ -50,7 +50,7 @@ class Motion {
     const it = was.shown;
     it.removeAttribute("data-key");
     it.classList.add("ghost");
-    this.board.host.firstElementChild.append(it);
+    this.ghosts.append(it);
     return it;
   }
   /** What is no longer there: a message goes into its node, all else falls. */

@@ -13,8 +13,8 @@ const OWN = {
 
 class Page {
   constructor() {
-    this.board = new Board(at("board"));
-    this.motion = new Motion(this.board);
+    this.board = new Board(at("picture"));
+    this.motion = new Motion(this.board, at("ghosts"));
     Object.assign(this, { scene: null, choices: [], later: [], story: [], queue: [], selected: null });
     Object.assign(this, { timer: null, storm: null, isPlaying: false, isMoving: false, written: "" });
     const words = new URLSearchParams(location.hash.slice(1));
@@ -168,7 +168,7 @@ class Page {
     clearTimeout(this.timer);
     if (!this.queue.length) {
       this.isMoving = false;
-      this.show(0);
+      this.showScene();
       this.reveal();
       return this.rest();
     }
