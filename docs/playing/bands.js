@@ -175,7 +175,8 @@ class Bands {
   }
   /** A batch, or a mark, as a token. */
   tokenOf(batch, x, y, kinds, key = null) {
-    const colour = batch ? `batch c${(batch.number - 1) % 8}` : "mark", [wide, high] = [this.token, TALL], parts = [];
+    const colour = batch ? `batch c${(batch.number - 1) % 8}` : "mark", [wide, high] = [this.token, TALL];
+    const parts = [tag("title", {}, escaped(batch ? `Batch ${batch.number}: ${batchWords(batch.batch)}` : "The mark"))];
     if (batch) parts.push(tag("rect", { width: wide, height: high, rx: 5 }));
     else parts.push(tag("path", { d: `M2 0H${wide - 2}L${wide - 7} ${high / 2}L${wide - 2} ${high}H2Z` }));
     const inner = { x: 2.6, y: 2.6, width: wide - 5.2, height: high - 5.2, rx: 3, class: "inner" };

@@ -232,11 +232,10 @@ class Page {
   // ---- what is shown
 
   show(slow, choice, to) {
-    const focus = document.activeElement?.dataset?.key;
+    const focus = this.focus();
     this.motion.before();
     this.board.draw(this.world, this.selected);
     if (slow) this.motion.after(slow, choice, to);
-    if (focus) this.board.host.querySelector(`[data-key="${CSS.escape(focus)}"]`)?.focus({ preventScroll: true });
     this.write();
     this.showScene();
     this.showNow();
@@ -247,6 +246,22 @@ class Page {
     this.showPromise();
     this.showCard();
     this.buttons();
+    if (focus) focus();
+  }
+  /** How to give the focus back once what has it is drawn anew; to another message where its own is gone. */
+  focus() {
+    const it = document.activeElement, { key } = it?.dataset ?? {}, isOfMessage = key?.startsWith("m:");
+    const to = (found) => found?.focus({ preventScroll: true });
+    if (at("flight").contains(it)) {
+      const place = [...at("flight").querySelectorAll("button")].indexOf(it);
+      return () => to([...at("flight").querySelectorAll("button")].slice(0, place + 1).pop());
+    }
+    if (!key && !(at("card").contains(it) && /^m\d/.test(this.selected ?? ""))) return null;
+    const find = (selector) => this.board.host.querySelector(selector);
+    return () => {
+      const same = key && find(`[data-key="${key}"]`);
+      if (at("card").hidden || key) to(same ?? (key && !isOfMessage ? null : find(".pill")));
+    };
   }
   /** On a small screen, brings the node of the last step into view. */
   reveal() {
@@ -261,7 +276,7 @@ class Page {
   showPromise() {
     const { count, broken } = promiseOf(this.world), servers = this.world.of("storage");
     const isGone = servers.some((it) => goneFrom(this.world, it) !== null), isBad = broken.length > 0 || isGone;
-    const kept = isGone ? `${count} acknowledged, part of it on no log` : `${count} acknowledged, all kept`;
+    const kept = isGone ? `${count} acknowledged, partly gone` : `${count} acknowledged, all kept`;
     const words = broken.length ? `${broken.length} of ${count} acknowledged not kept` : kept;
     at("promise").className = isBad ? "bad" : count ? "good" : "none";
     at("promise").textContent = count || isBad ? words : "nothing acknowledged yet";
@@ -301,7 +316,7 @@ class Page {
     const isInside = had && at("card").contains(document.activeElement);
     close.onclick = () => this.select(null);
     at("card").replaceChildren(close, ...card);
-    if (isInside) at("card").querySelector(".acts button, button")?.focus({ preventScroll: true });
+    if (isInside) (at("card").querySelector(".acts button") ?? at("card").querySelector("button"))?.focus({ preventScroll: true });
     this.placeCard();
   }
   /** Puts the card below what was chosen, or above it where there is no room; on a small screen it is at the bottom. */
