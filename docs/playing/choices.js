@@ -107,11 +107,8 @@ function nextFetch(world, server) {
   const isFlying = world.flight.some((it) => (it.from === server || it.to === server) && !it.isHeld);
   if (isFlying) return null;
   const text = (word, log) => `${word}${tag}-${epochOf(log.epoch)}-${log.place}`;
-  const newer = [...world.chosen].reverse().find(
-    (epoch) => epoch > own &&
-    world.logsOf(epoch).some((it) => !it.isGone && it.machine.mark)
-  );
-  const marked = newer && world.logsOf(newer).find((it) => !it.isGone && it.machine.mark);
+  const later = world.chosen.filter((epoch) => epoch > own).reverse(), isMarked = (it) => !it.isGone && it.machine.mark;
+  const marked = later.flatMap((epoch) => world.logsOf(epoch)).find(isMarked);
   if (marked) return text("m", marked);
   const source = sourceOf(state, version + 1), end = (nextOf(state, source.epoch) ?? { first: Infinity }).first - 1;
   const better = holdersOf(world, source.epoch, tag).filter((it) => !it.isGone && it.machine.seed !== null);
@@ -125,12 +122,8 @@ function nextFetch(world, server) {
 function onward(world) {
   const flying = world.flight.find((it) => !it.isHeld);
   if (flying) return `d${flying.id}`;
-  for (const it of world.nodes.values())
-    if (
-      !it.isGone &&
-      world.unanswered(it).some(([to]) => !to.isGone) &&
-      it.askedAgain !== world.changes
-    ) return `a${it.code}`;
+  const isWorth = (it) => it.askedAgain !== world.changes && world.unanswered(it).some(([to]) => !to.isGone);
+  for (const it of world.nodes.values()) if (!it.isGone && isWorth(it)) return `a${it.code}`;
   for (const server of world.of("storage")) {
     const fetch = nextFetch(world, server);
     if (fetch) return fetch;
@@ -162,67 +155,57 @@ function batchDrawn(draw) {
   return draw() < 0.5 ? one() : one() + one();
 }
 
-/** Each kind of choice with how often it is drawn, and what it then may be: a choice, or null where none fits. */
-const DRAWS = [
-  [40, (world) => onward(world)],
-  [46, (world, pick) => pick(world.flight.filter((it) => !it.isHeld), (it) => `d${it.id}`)],
-  [5, (world, pick) => pick(world.flight, (it) => `d${it.id}`)],
-  [4, (world, pick) => pick(world.flight, (it) => `x${it.id}`)],
-  [3, (world, pick) => pick(world.flight.filter((it) => !it.isAgain), (it) => `t${it.id}`)],
-  [3, (world, pick) => pick(world.flight, (it) => `h${it.id}`)],
-  [
-    9,
-    (world, pick, draw) => pick(
-      world.of("proxy").filter((it) => !it.isGone && !it.machine.open && !it.machine.ended),
-      (it) => `u${it.code.slice(1)}-${batchDrawn(draw)}`
-    )
-  ],
-  [
-    8,
-    (world, pick) => pick(
-      [...world.nodes.values()].filter((it) => !it.isGone && world.unanswered(it).length > 0), (it) => `a${it.code}`
-    )
-  ],
-  [12, (world, pick) => pick(world.of("storage").map((it) => nextFetch(world, it)).filter(Boolean), (it) => it)],
-  [
-    3,
-    (world, pick) => pick(
-      world.of("storage"),
-      (server) => pick(
-        world.of("log"), (log) => pick(["g", "m"], (word) => `${word}${server.place}-${log.code.slice(1)}`)
-      )
-    )
-  ],
-  [
-    2,
-    (world, pick) => pick(
-      world.of("storage"),
-      (server) => pick(
-        world.of("log").filter((it) => server.machine.state.gens.some((gen) => gen.epoch === it.epoch)),
-        (log) => `o${server.place}-${log.code.slice(1)}`
-      )
-    )
-  ],
-  [
-    1.6,
-    (world, pick, draw) => (
-      world.begun < 20
-      ? (draw() < 0.4 ? `b${pick(["2-1", "2-2", "3-2", "4-2", "4-3", "5-3"], (it) => it)}` : "b")
-      : null
-    )
-  ],
-  [0.7, (world, pick) => pick([...world.nodes.values()].filter((it) => !it.isGone), (it) => `k${it.code}`)],
-  [0.3, (world, pick) => pick(world.of("log").filter((it) => !it.isGone), (it) => `L${it.code.slice(1)}`)],
-];
+const SHAPES = ["2-1", "2-2", "3-2", "4-2", "4-3", "5-3"];
+const codeOf = (it) => it.code.slice(1);
+
+/** What a random walk may choose, where something is there for it: each with a world, a pick of items, and numbers. */
+const DRAWN = {
+  onward: (world) => onward(world),
+  deliver: (world, pick) => pick(world.flight.filter((it) => !it.isHeld), (it) => `d${it.id}`),
+  deliverAny: (world, pick) => pick(world.flight, (it) => `d${it.id}`),
+  lose: (world, pick) => pick(world.flight, (it) => `x${it.id}`),
+  repeat: (world, pick) => pick(world.flight.filter((it) => !it.isAgain), (it) => `t${it.id}`),
+  hold: (world, pick) => pick(world.flight, (it) => `h${it.id}`),
+  submit: (world, pick, draw) => {
+    const free = world.of("proxy").filter((it) => !it.isGone && !it.machine.open && !it.machine.ended);
+    return pick(free, (it) => `u${codeOf(it)}-${batchDrawn(draw)}`);
+  },
+  again: (world, pick) => {
+    const waiting = [...world.nodes.values()].filter((it) => !it.isGone && world.unanswered(it).length > 0);
+    return pick(waiting, (it) => `a${it.code}`);
+  },
+  fetch: (world, pick) => pick(world.of("storage").map((it) => nextFetch(world, it)).filter(Boolean), (it) => it),
+  fetchAny: (world, pick) => {
+    const [server, log, word] = [world.of("storage"), world.of("log"), ["g", "m"]].map((it) => pick(it, (each) => each));
+    return `${word}${server.place}-${codeOf(log)}`;
+  },
+  letGo: (world, pick) => {
+    const server = pick(world.of("storage"), (it) => it), isIn = (log) => (gen) => gen.epoch === log.epoch;
+    const logs = world.of("log").filter((it) => server.machine.state.gens.some(isIn(it)));
+    return pick(logs, (it) => `o${server.place}-${codeOf(it)}`);
+  },
+  recover: (world, pick, draw) => {
+    if (world.begun >= 20) return null;
+    return draw() < 0.4 ? pick(SHAPES, (it) => `b${it}`) : "b";
+  },
+  crash: (world, pick) => pick([...world.nodes.values()].filter((it) => !it.isGone), (it) => `k${it.code}`),
+  loseLog: (world, pick) => pick(world.of("log").filter((it) => !it.isGone), (it) => `L${codeOf(it)}`),
+};
+
+/** How often each of them is drawn. */
+const OFTEN = {
+  onward: 40, deliver: 46, deliverAny: 5, lose: 4, repeat: 3, hold: 3, submit: 9, again: 8, fetch: 12, fetchAny: 3,
+  letGo: 2, recover: 1.6, crash: 0.7, loseLog: 0.3,
+};
 
 /** The next choice of a random walk. */
 function drawn(world, draw) {
   const pick = (items, make) => (items.length ? make(items[Math.floor(items.length * draw())]) : null);
-  const all = DRAWS.reduce((sum, it) => sum + it[0], 0);
+  const names = Object.keys(OFTEN), all = names.reduce((sum, it) => sum + OFTEN[it], 0);
   for (let tries = 0; tries < 50; tries++) {
     let at = all * draw();
-    const [, make] = DRAWS.find((it) => (at -= it[0]) < 0) ?? DRAWS[0];
-    const choice = make(world, pick, draw);
+    const name = names.find((it) => (at -= OFTEN[it]) < 0) ?? "onward";
+    const choice = DRAWN[name](world, pick, draw);
     if (choice) return choice;
   }
   return "b";

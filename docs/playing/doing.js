@@ -95,7 +95,7 @@ Object.assign(Page.prototype, {
     this.flush();
     if (this.storm || this.isPlaying) this.stop();
     this.select(this.selected === selected ? null : selected);
-    if (byKey) (at("card").querySelector(".acts button") ?? at("card").querySelector("button"))?.focus();
+    if (byKey) this.intoCard();
   },
   listen() {
     const click = {

@@ -316,8 +316,12 @@ class Page {
     const isInside = had && at("card").contains(document.activeElement);
     close.onclick = () => this.select(null);
     at("card").replaceChildren(close, ...card);
-    if (isInside) (at("card").querySelector(".acts button") ?? at("card").querySelector("button"))?.focus({ preventScroll: true });
+    if (isInside) this.intoCard();
     this.placeCard();
+  }
+  /** Gives the focus to the first thing that can be done in the card. */
+  intoCard() {
+    (at("card").querySelector(".acts button") ?? at("card").querySelector("button"))?.focus({ preventScroll: true });
   }
   /** Puts the card below what was chosen, or above it where there is no room; on a small screen it is at the bottom. */
   placeCard() {
