@@ -22,7 +22,8 @@ class Ran:
 
     def __init__(self, room, words):
         self.words, self.room = words, room
-        ran = subprocess.run([ROUTER, *words, "--dir", room], capture_output=True, text=True, timeout=built.patience(250))
+        how = {"capture_output": True, "text": True, "timeout": built.patience(250)}
+        ran = subprocess.run([ROUTER, *words, "--dir", room], **how)
         self.status, self.lines, self.errors = ran.returncode, ran.stdout.splitlines(), ran.stderr
         counts = next((line for line in self.lines if " kills, " in line), "")
         self.counts = {word: int(number) for number, word in re.findall(r"(\d+) ([^,]+)", counts)}
