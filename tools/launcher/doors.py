@@ -1,7 +1,6 @@
 """What words name, looked at before anything is built: the file of a store, and the script on standard input. What the
 program would refuse in a moment is refused at once."""
 import os
-import sqlite3
 import sys
 
 from . import crates
@@ -59,6 +58,8 @@ def look_inside(command, name):
         return
     if head != HEAD:
         raise no_store(name, "the file holds no database")
+    import sqlite3  # (where it is wanted alone: it takes as long as all else)
+
     try:
         its = sqlite3.connect(f"file:{name.replace('?', '%3f').replace('#', '%23')}?mode=ro&immutable=1", uri=True)
         tables = [row[0] for row in its.execute("SELECT name FROM sqlite_master WHERE type = 'table' ORDER BY rowid")]

@@ -4,16 +4,17 @@ import fcntl
 import os
 import re
 import shutil
-import subprocess
 import sys
-import tempfile
 
-from . import crates, doors, proved, table, unproved
+from . import crates, doors, table
 from . import words as wording
 
 TOP = crates.TOP
 BAD, NO_KIT = 2, 127
-say = proved.say
+
+
+def say(text):
+    print(f"fdbrec: {text}", file=sys.stderr, flush=True)
 
 
 def help_of(names):
@@ -47,6 +48,8 @@ def crate_of(words):
 def run(program, words, given=None):
     """Becomes the program. Each says of itself that it is fdbrec. `given` is standard input, if it was read."""
     if given is not None:
+        import tempfile
+
         with tempfile.TemporaryFile() as it:
             it.write(given)
             it.seek(0)
@@ -66,6 +69,10 @@ def need_rt():
 def run_quick(crate, words, look):
     """Runs words unproved: by the program that was kept, or else after it was compiled. `look` gives standard input, if
     the words want a script, and refuses what is none."""
+    import subprocess
+
+    from . import unproved
+
     names = [crate, "fdbrec"] if crate == "fdbrec_apply" else [crate]
     found = next(filter(None, map(unproved.kept, names)), None)
     given = None
@@ -86,6 +93,8 @@ def run_quick(crate, words, look):
 
 def build(crate):
     """One build at a time: who comes second waits, and finds the program built."""
+    from . import proved
+
     os.makedirs(f"{TOP}/crates/{crate}/out", exist_ok=True)
     with open(f"{TOP}/crates/{crate}/out/build.lock", "w", encoding="utf-8") as lock:
         try:
@@ -96,7 +105,7 @@ def build(crate):
             if crates.is_built(crate):
                 return
         try:
-            proved.build(crate)
+            proved.build(crate, say)
         except proved.Failed:
             sys.exit(1)
         except proved.Stopped as stopped:

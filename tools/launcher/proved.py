@@ -10,10 +10,6 @@ import time
 from . import crates
 
 
-def say(text):
-    print(f"fdbrec: {text}", file=sys.stderr, flush=True)
-
-
 class Failed(Exception):
     """The program was not built."""
 
@@ -29,8 +25,8 @@ class Stopped(Exception):
 class Build:
     """One build: its log, the commands that run, and what is proved so far."""
 
-    def __init__(self, crate, top):
-        self.crate, self.top = crate, top
+    def __init__(self, crate, say, top):
+        self.crate, self.say, self.top = crate, say, top
         self.log = f"{top}/crates/{crate}/out/build.log"
         self.lock = threading.Lock()
         self.running, self.proved, self.now = {}, [], []
@@ -141,17 +137,17 @@ class Build:
             now = self.state()
             if now != seen or time.monotonic() - said >= 60:
                 seen, said = now, time.monotonic()
-                say(f"{now}; {int(said - self.began) // 60} minutes so far")
+                self.say(f"{now}; {int(said - self.began) // 60} minutes so far")
 
 
 def _raise(number, _):
     raise Stopped(number)
 
 
-def build(crate, top=crates.TOP):
+def build(crate, say, top=crates.TOP):
     """Proves and builds the program of a crate; the lock of its build is held by the caller. Raises Failed, or Stopped
     after a signal, when all that ran is ended."""
-    it = Build(crate, top)
+    it = Build(crate, say, top)
     count, minutes = len(it.all), crates.minutes_of(crate, top)
     say(f"proving {count} crates and building the program, once: some {minutes} processor minutes")
     say(f"the log: {it.log}")

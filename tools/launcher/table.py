@@ -1,35 +1,26 @@
 """The commands of the program and their options, as it takes them: the one table by which ./fdbrec judges words before
 anything is built. tests/words compares what it says with what the program says, and tests/help with docs/help."""
-import dataclasses
-
 U8, U16, U32, U64 = 2**8 - 1, 2**16 - 1, 2**32 - 1, 2**64 - 1
 STORES = ("map", "sql")
 
 
-@dataclasses.dataclass(frozen=True)
 class Option:
     """An option: its name, the name of its value (None for a flag), the values that it may have (names, or the least
     and the greatest number with whether its type has a sign), and whether it must be there."""
 
-    name: str
-    value: str = None
-    names: tuple = ()
-    range: tuple = None
-    is_signed: bool = True
-    is_required: bool = False
+    def __init__(self, name, value=None, names=(), range=None, is_signed=True, is_required=False):
+        self.name, self.value, self.names, self.range = name, value, names, range
+        self.is_signed, self.is_required = is_signed, is_required
 
     def __str__(self):
         return f"--{self.name} <{self.value}>" if self.value else f"--{self.name}"
 
 
-@dataclasses.dataclass(frozen=True)
 class Command:
     """A command: its name, its options, and the commands below it, one of which must be said if there are some."""
 
-    name: str
-    options: tuple = ()
-    below: tuple = ()
-    has_version: bool = False
+    def __init__(self, name, options=(), below=(), has_version=False):
+        self.name, self.options, self.below, self.has_version = name, options, below, has_version
 
     def option(self, name):
         return next((it for it in self.all_options() if it.name == name), None)
@@ -61,7 +52,7 @@ def _file(name="db", value="FILE", is_required=False):
 
 _STORE = Option("store", "KIND", names=STORES)
 _SHAPE = (_number("logs", 1, 16), _number("degree", 1, 16))
-_NEEDED = tuple(dataclasses.replace(it, is_required=True) for it in _SHAPE)
+_NEEDED = (_number("logs", 1, 16, is_required=True), _number("degree", 1, 16, is_required=True))
 _CONFIG = _file("config", is_required=True)
 _DIR, _START = _file("dir", "DIR"), Option("start")
 
