@@ -93,6 +93,13 @@ def there(crate="fdbrec"):
     return program(crate) if os.access(path, os.X_OK) else None
 
 
+def seeds(first, last):
+    """The seeds from one to another, as bench scripts read them; over programs that are compiled without proofs a run
+    of them, of which the seed of ./test says where it begins."""
+    chosen = share(range(first, last + 1))
+    return f"{first}-{last}" if len(chosen) > last - first else f"{chosen[0]}-{min(last, chosen[0] + len(chosen) - 1)}"
+
+
 def archive(crate):
     """The same of a crate that is a static library, as ./build-library leaves it. Of such a crate `rt ci` leaves only
     the libraries below it; over these it is made here. A second test waits until that is done."""
@@ -176,7 +183,7 @@ def name_changed_rows(checks, player, text, changes):
     """That a player of scenarios names a row in which something else is wanted. Each change of a file's text is what it
     is, a pattern, and what stands in place of what this finds first."""
     with tempfile.TemporaryDirectory() as room:
-        for what, pattern, change in changes:
+        for what, pattern, change in share(changes):
             changed, count = re.subn(pattern, change, text, count=1, flags=re.M)
             with open(f"{room}/changed.md", "w", encoding="utf-8") as it:
                 it.write(changed)
