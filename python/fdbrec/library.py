@@ -3,9 +3,11 @@
 Each is an object over the C library, whose machines are proved (docs/LIBRARY.md says what). It does no input and no
 output: a program carries what a machine asks to the others, and what they tell back.
 
-    with fdbrec.Store() as store:
-        store.apply(5, fdbrec.Batch().set(b"a", b"1"))
-        store.apply(6, fdbrec.Batch().set(b"a", b"2"))
+    from fdbrec import library
+
+    with library.Store() as store:
+        store.apply(5, library.Batch().set(b"a", b"1"))
+        store.apply(6, library.Batch().set(b"a", b"2"))
         store.undo_to(5)
         assert store.get(b"a") == b"1"
 
@@ -28,8 +30,6 @@ import threading
 from collections.abc import Iterator, Sequence
 from enum import IntEnum
 from typing import Any, NamedTuple
-
-__version__ = "0.2.0"
 
 Json = Any
 """What `json` makes of a text."""

@@ -1,5 +1,5 @@
 #!/usr/bin/env python3
-"""bindings/python/play.py [FILE..]: plays the scenarios of the machines that fdbrec.py wraps, and compares every tell.
+"""play_library.py [FILE..]: plays the scenarios of the machines that fdbrec.library wraps, and compares every tell.
 
 The files are those of scenarios/, whose README.md says what a row is; none named: all. A row that
 the library does not have is left out if it changes nothing, as `made`; else the scenario is played up to it. The last
@@ -14,7 +14,9 @@ import os
 import re
 import sys
 
-import fdbrec
+sys.path.insert(0, os.path.dirname(os.path.dirname(os.path.realpath(__file__))))
+
+from fdbrec import library
 
 SCENARIOS = f"{os.path.dirname(os.path.dirname(os.path.dirname(os.path.realpath(__file__))))}/scenarios"
 # names of refusals by fault: a scenario tells which one, the library that it is one
@@ -73,7 +75,7 @@ def value_of(word, names):
 
 
 def batch_of(mutations):
-    batch = fdbrec.Batch()
+    batch = library.Batch()
     for mutation in mutations:
         ((name, it),) = mutation.items()
         if name == "clear":
@@ -88,24 +90,24 @@ def made(word, it):
     """The machine that the first row of a scenario makes."""
     keys = [bytes.fromhex(key) for key in it.get("shards", [])] if isinstance(it, dict) else []
     if word == "cell":
-        return fdbrec.Cell()
+        return library.Cell()
     if word == "log":
-        return fdbrec.Log(it["epoch"], it["index"], it["m"], it["k"])
+        return library.Log(it["epoch"], it["index"], it["m"], it["k"])
     if word == "sequencer":
-        return fdbrec.Sequencer(it["epoch"], it["last"])
+        return library.Sequencer(it["epoch"], it["last"])
     if word == "proxy":
-        return fdbrec.Proxy(it["epoch"], it["number"], it["m"], it["k"], it["known"], keys)
+        return library.Proxy(it["epoch"], it["number"], it["m"], it["k"], it["known"], keys)
     if word == "recoverer":
         shape = (it["logs"], it["degree"]) if "logs" in it else None
-        return fdbrec.Recoverer(it["ballot"], it["coordinators"], keys, shape)
+        return library.Recoverer(it["ballot"], it["coordinators"], keys, shape)
     if word == "storage":
-        return fdbrec.Storage(it["tag"], it["state"])
+        return library.Storage(it["tag"], it["state"])
     if word == "store":
-        return fdbrec.Store()
+        return library.Store()
     raise NotHere
 
 
-KINDS = {fdbrec.Cell: "cell", fdbrec.Log: "log", fdbrec.Sequencer: "seq"}
+KINDS = {library.Cell: "cell", library.Log: "log", library.Sequencer: "seq"}
 
 
 def told(machine, word, it):
@@ -193,9 +195,9 @@ def play(rows):
                 if word in LEFT_OUT:
                     continue
                 return count, False, None
-            except fdbrec.Refused:
+            except library.Refused:
                 said = "refused"
-            except fdbrec.Fault as fault:
+            except library.Fault as fault:
                 said = repr(fault)
             want = json.loads(wanted)
             if said != ("refused" if isinstance(want, str) and want in REFUSALS else want):

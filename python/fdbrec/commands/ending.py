@@ -5,7 +5,7 @@
 import os
 import sys
 
-from . import places, schemas
+from ..scripts import places, schemas
 
 MARKS = {b"\xef\xbb\xbf": "it begins with a byte order mark: save it as UTF-8 without one"}
 MARKS |= {it: "it is UTF-16: save it as UTF-8" for it in (b"\xff\xfe", b"\xfe\xff")}
@@ -77,17 +77,21 @@ def place_of(command, data):
     return f"{said}\n{tip}" if said and tip else said
 
 
+def called(name):
+    """How a command was called: by a script of that name, or as one of the package."""
+    return sys.argv[0] if os.path.basename(sys.argv[0]) == name else f"python3 -m fdbrec {name}"
+
+
 def no_words(words, name):
     """Refuses words of a command that has none."""
     if words and os.path.exists(words[0]):
-        raise BadWords(f"{name} reads standard input: {name} < {words[0]}")
+        raise BadWords(f"{called(name)} reads standard input: {called(name)} < {words[0]}")
     if words:
         raise BadWords(f"unexpected word {words[0]!r}: {name} reads standard input, and has no words but --help")
 
 
-def run(main, page):
+def run(main, page, words):
     """Runs a command, `main` over its words, to its status. `page` is its help."""
-    words = sys.argv[1:]
     try:
         if words == ["--help"]:
             write(page)

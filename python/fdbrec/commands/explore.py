@@ -1,11 +1,11 @@
-#!/usr/bin/env python3
 """explore < SCRIPT > RUN.html: a page that steps through a run, in one file without network.
 
-SCRIPT is one of `fdbrec audit` (as `cluster --journal`, tools/router or another system writes it), or one of `fdbrec
-simulate`, whose steps are then played here by the rules of docs/PROTOCOL.md (bench/reading) and shown as journals. Open
-the page in a browser: it has lanes by node with asks and tells as arrows, the state of the chosen node at each step, a
-search for batches, versions and keys, recoveries as bands and rollbacks with what they undid. It works all of it out by
-an independent reading of the rules (bench/exploring), and opens at the first fault of the journals, if they have one.
+SCRIPT is one of `fdbrec audit` (as `cluster --journal`, `router` or another system writes it), or one of `fdbrec
+simulate`, whose steps are then played here by the rules of docs/PROTOCOL.md (fdbrec/reading) and shown as journals.
+Open the page in a browser: it has lanes by node with asks and tells as arrows, the state of the chosen node at each
+step, a search for batches, versions and keys, recoveries as bands and rollbacks with what they undid. It works all of
+it out by an independent reading of the rules (fdbrec/exploring), and opens at the first fault of the journals, if they
+have one.
 
 Behind # of its address may stand step=N, node=NAME, find=TEXT, news=0 or 1, scale=N and theme=dark or light, with & in
 between. What is no script is refused as the program does it, `bad script` with the place, and so are numbers above
@@ -13,36 +13,32 @@ between. What is no script is refused as the program does it, `bad script` with 
 """
 import json
 import os
-import sys
 
-sys.dont_write_bytecode = True
-HERE = os.path.dirname(os.path.realpath(__file__))
-sys.path.insert(0, HERE)
+from ..reading.steps import played
+from . import ending
 
-from reading import commands
-from reading.steps import played
-
+FOLDER = f"{os.path.dirname(os.path.dirname(os.path.realpath(__file__)))}/exploring"
 PARTS = ("values", "rules", "recoverer", "run", "words", "draw", "panel", "page")
 MOST = 2**53 - 1
-# kinds of nodes in the order of the audit, and acts; bench/exploring/run.js has both in the same order
+# kinds of nodes in the order of the audit, and acts; exploring/run.js has both in the same order
 ORDER = ("cell", "log", "sequencer", "proxy", "recoverer", "storage")
 ACTS = ("asked", "heard", "submitted", "begun", "crashed", "lost")
 
 
 def read(path):
-    with open(f"{HERE}/exploring/{path}", encoding="utf-8") as it:
+    with open(f"{FOLDER}/{path}", encoding="utf-8") as it:
         return it.read()
 
 
 def number(text):
     if int(text) > MOST:
-        raise commands.BadWords(f"explore: the number {text} is above 2^53, and a browser does not count it exactly")
+        raise ending.BadWords(f"explore: the number {text} is above 2^53, and a browser does not count it exactly")
     return int(text)
 
 
 def journals_of(data):
     """The script of an audit: what stands there, or what the steps of a world come to."""
-    command, script = commands.run_script_of(data)
+    command, script = ending.run_script_of(data)
     json.loads(data, parse_int=number)
     return played(script) if command == "simulate" else script
 
@@ -114,10 +110,10 @@ def page_of(script):
 
 
 def main(words):
-    commands.no_words(words, "bench/explore")
-    commands.write(page_of(journals_of(commands.given())))
+    ending.no_words(words, "explore")
+    ending.write(page_of(journals_of(ending.given())))
     return 0
 
 
-if __name__ == "__main__":
-    sys.exit(commands.run(main, __doc__))
+def run(words):
+    return ending.run(main, __doc__, words)

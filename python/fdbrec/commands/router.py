@@ -1,5 +1,4 @@
-#!/usr/bin/env python3
-"""tools/router [--seed S | --seeds A-B] [--kills N] [--steps N] [--store files|memory] [--node [KIND=]COMMAND]..
+"""router [--seed S | --seeds A-B] [--kills N] [--steps N] [--store files|memory] [--node [KIND=]COMMAND]..
              [--audit COMMAND] [--dir FOLDER] [--jobs N] [--keep] [--shrink] [--without A-B,..]
 
 Runs a whole cluster of processes, one for each node, and kills them. It starts the nodes, carries asks and tells
@@ -14,7 +13,7 @@ has that audited, and prints the line of the audit, where the journals lie, and 
               draws which node runs by which. Without it: the built fdbrec_node, as `fdbrec_node node`.
   --store     files, which is meant: cells, logs and storage servers come back after a kill; memory: what is killed is
               gone
-  --audit     COMMAND reads the script and prints a line; else `fdbrec audit`, or bench/judge if that is not built
+  --audit     COMMAND reads the script and prints a line; else `fdbrec audit`, or `judge` if that is not built
   --dir       where all is written, else a new folder; with several seeds each has a folder in it, which is kept if the
               seed fails or with --keep
   --jobs      with several seeds, so many run side by side
@@ -47,15 +46,14 @@ import tempfile
 import time
 import traceback
 
-sys.dont_write_bytecode = True
-TOP = os.path.dirname(os.path.dirname(os.path.realpath(__file__)))
-sys.path[:0] = [f"{TOP}/tools", f"{TOP}/bench"]
+from ..reading import judging
+from ..routing.processes import NUMBERS, Trouble
+from ..routing.story import Story
+from ..scripts import places, schemas
+from . import ending
 
-from reading import commands, places, schemas
-from routing import drawing
-from routing.processes import NUMBERS, Trouble
-from routing.story import Story
-
+PACKAGE = os.path.dirname(os.path.dirname(os.path.realpath(__file__)))
+TOP = os.path.dirname(os.path.dirname(PACKAGE))
 SHRINKING = 300  # seconds
 SAID = (
     ("kills", "kills"),
@@ -85,7 +83,7 @@ class Words(argparse.ArgumentParser):
     """Words, of which bad ones are named in one line."""
 
     def error(self, message):
-        raise commands.BadWords(f"{message}; tools/router --help says more")
+        raise ending.BadWords(f"{message}; router --help says more")
 
 
 def range_of(text):
@@ -157,11 +155,12 @@ def commands_of(nodes):
     return {kind: its or found[None] for kind, its in found.items() if kind}
 
 
-def judge():
-    return [built("fdbrec"), "audit"] if built("fdbrec") else [f"{TOP}/bench/judge"]
+def auditor():
+    """The built program, or None: then the reading of the rules judges."""
+    return [built("fdbrec"), "audit"] if built("fdbrec") else None
 
 
-def run(seed, room, words, without=()):
+def play(seed, room, words, without=()):
     """Plays a seed in a folder: the line of the audit or what went wrong, and the counts."""
     story = trace = None
     try:
@@ -170,7 +169,7 @@ def run(seed, room, words, without=()):
         story.play(words.steps, words.kills, set(without))
         script = story.script()
         story.close()
-        line = judged(room, script, words.audit or judge())
+        line = judged(room, script, words.audit or auditor())
     except Trouble as why:
         line = str(why)
     except OSError as why:
@@ -200,6 +199,8 @@ def judged(room, script, audit):
     lack = schemas.lack_of(script, "audit")
     if lack:
         raise Trouble(f"the journals are a bad script: {places.said_of('audit', text.encode()) or lack}")
+    if audit is None:
+        return judging.verdict(script)
     try:
         ran = subprocess.run(audit, input=text + "\n", capture_output=True, text=True)
     except OSError as why:
@@ -227,7 +228,7 @@ def shrunk(seed, room, words, without):
 
 def fails(seed, room, words, without):
     shutil.rmtree(room, ignore_errors=True)
-    return run(seed, room, words, without)[0] != "audit ok"
+    return play(seed, room, words, without)[0] != "audit ok"
 
 
 def told(counts):
@@ -236,11 +237,11 @@ def told(counts):
 
 def one(seed, room, words):
     """Plays a seed, and shrinks it where it fails and that is wanted; the line, the counts, and what else to say."""
-    line, counts = run(seed, room, words, words.without)
+    line, counts = play(seed, room, words, words.without)
     more = ""
     if line != "audit ok" and words.shrink:
         fewer = shrunk(seed, room, words, words.without)
-        line = run(seed, f"{room}-shrunk", words, fewer)[0]
+        line = play(seed, f"{room}-shrunk", words, fewer)[0]
         more = f"without {len(fewer)} of {words.steps + 1} steps it says: {line}\njournals: {room}-shrunk/journals.json"
     return line, counts, more
 
@@ -267,23 +268,23 @@ def several(words, room):
 def main(words):
     words = parsed(words)
     if not all(commands_of(words.node).values()):
-        raise commands.BadWords(
+        raise ending.BadWords(
             "fdbrec_node is not built, and --node names no program. ./fdbrec node builds it;\n"
             "tools/router --node examples/foreign/node does without."
         )
     if words.jobs < 1:
-        raise commands.BadWords("--jobs is at least 1")
+        raise ending.BadWords("--jobs is at least 1")
     room = os.path.abspath(words.dir or tempfile.mkdtemp(prefix="router-"))
     if os.path.exists(room) and (not os.path.isdir(room) or os.listdir(room)):
-        raise commands.BadWords(f"{room} is not empty, or is no folder")
+        raise ending.BadWords(f"{room} is not empty, or is no folder")
     if len(words.seeds) > 1:
         return 0 if several(words, room) else 1
     (seed,) = words.seeds
     line, counts, more = one(seed, room, words)
     said = [line, f"journals: {room}/journals.json", f"seed {seed}: {told(counts)}", *([more] if more else [])]
-    commands.write("\n".join(said) + "\n")
+    ending.write("\n".join(said) + "\n")
     return 0 if line == "audit ok" else 1
 
 
-if __name__ == "__main__":
-    sys.exit(commands.run(main, __doc__))
+def run(words):
+    return ending.run(main, __doc__, words)

@@ -1,27 +1,21 @@
-#!/usr/bin/env python3
 """timeline < JOURNALS > PICTURE.svg: draws the journals of a run, as `fdbrec audit` reads them.
 
-Time goes to the right, in the order of the audit, one place for each entry that shows something: asks that bring nothing
-new take none. The axis has the stamps of some of these places. There is a lane for each recoverer, sequencer, proxy,
-storage server and log, grouped by epoch, and one for each cell. Drawn are: batches from when a proxy took them to when it
-said that they are committed (filled) or ended (hollow), or to the end of the picture where nothing was said (dashed);
-what cells promised and what was written there; pulls, with the version through which they went; rollbacks, where
-a storage server took up the state of a later epoch and its version fell; hears of a storage server that broke off; what
-was refused, once where the same is refused again and again; recoveries from their beginning, with the shape that they
-were given, to their first mark; locks; how far logs let tags go, where that rises; crashes and losses. Beside the colour
-of an epoch stands how many logs its generation has and how many of them hold each tag, where the journals tell it; below
-the lanes, what each mark means. Where a storage server stands is worked out here, by the rules of docs/PROTOCOL.md, from
-what it heard. `bench/explore` makes a page of the same journals, for whoever has a browser. What is no script of `audit`
-is refused as the program does it: `bad script` with the place, and status 2.
+Time goes to the right, in the order of the audit, one place for each entry that shows something: asks that bring
+nothing new take none. The axis has the stamps of some of these places. There is a lane for each recoverer, sequencer,
+proxy, storage server and log, grouped by epoch, and one for each cell. Drawn are: batches from when a proxy took them
+to when it said that they are committed (filled) or ended (hollow), or to the end of the picture where nothing was said
+(dashed); what cells promised and what was written there; pulls, with the version through which they went; rollbacks,
+where a storage server took up the state of a later epoch and its version fell; hears of a storage server that broke
+off; what was refused, once where the same is refused again and again; recoveries from their beginning, with the shape
+that they were given, to their first mark; locks; how far logs let tags go, where that rises; crashes and losses. Beside
+the colour of an epoch stands how many logs its generation has and how many of them hold each tag, where the journals
+tell it; below the lanes, what each mark means. Where a storage server stands is worked out here, by the rules of
+docs/PROTOCOL.md, from what it heard. `explore` makes a page of the same journals, for whoever has a browser. What is no
+script of `audit` is refused as the program does it: `bad script` with the place, and status 2.
 """
-import os
-import sys
 from xml.sax.saxutils import escape
 
-sys.dont_write_bytecode = True
-sys.path.insert(0, os.path.dirname(os.path.realpath(__file__)))
-
-from reading import commands
+from . import ending
 
 STEP, LANE, LEFT, TOP = 9, 22, 190, 46
 KINDS = ["recoverer", "sequencer", "proxy", "log", "storage", "cell"]
@@ -266,7 +260,8 @@ class Picture:
         if kept.get(lane) != what["ballot"]:
             kept[lane] = what["ballot"]
             colour = self.colour.get(what["ballot"], "#555")
-            self.square(lane, x, colour, word == "write", f"{'took the value of' if word == 'write' else 'promised'} {what['ballot']}")
+            did = "took the value of" if word == "write" else "promised"
+            self.square(lane, x, colour, word == "write", f"{did} {what['ballot']}")
 
     def storage(self, lane, x, fields):
         sender, (word, tell) = fields["from"], kind_of(fields["tell"])
@@ -369,11 +364,11 @@ class Picture:
 
 
 def main(words):
-    commands.no_words(words, "bench/timeline")
-    script = commands.script_of("audit", commands.given())
-    commands.write(Picture(script["config"], script["journals"]).text() + "\n")
+    ending.no_words(words, "timeline")
+    script = ending.script_of("audit", ending.given())
+    ending.write(Picture(script["config"], script["journals"]).text() + "\n")
     return 0
 
 
-if __name__ == "__main__":
-    sys.exit(commands.run(main, __doc__))
+def run(words):
+    return ending.run(main, __doc__, words)

@@ -1,6 +1,6 @@
 "use strict";
 // Bytes, batches, shards and coordinated states, by docs/FORMATS.md and docs/PROTOCOL.md. A reading of its own: it shares
-// nothing with the crates, nor with bench/reading. Bytes are lower case hex, whose order as text is that of the bytes.
+// nothing with the crates, nor with python/fdbrec/reading. Bytes are lower case hex, whose order as text is that of the bytes.
 
 const FIRST = 257;
 

@@ -150,7 +150,7 @@ def bytes_of(state):
 
 
 def state_in(it):
-    """A state in a script's JSON: the list of its generations, in an object with how many were dropped where some were."""
+    """A state in a script's JSON: the list of its generations; if some were dropped, in an object with how many."""
     dropped, items = (it["dropped"], it["gens"]) if isinstance(it, dict) else (0, it)
     return State([(each["epoch"], each["m"], each["k"], each["first"], each["seeded_to"]) for each in items], dropped)
 

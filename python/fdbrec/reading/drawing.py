@@ -1,5 +1,5 @@
-"""Worlds that are drawn from seeds: each event has draws of its own, made of the seed and its number, so that events can
-be left out and the others are drawn as before. What comes of them is worked out by the rules (`events`)."""
+"""Worlds that are drawn from seeds: each event has draws of its own, made of the seed and its number, so that events
+can be left out and the others are drawn as before. What comes of them is worked out by the rules (`events`)."""
 
 import json
 import random
@@ -297,7 +297,8 @@ class Drawn:
         given = dict(given)
         if word == "hear":
             tell = self.events.told.get(key_of(given["of"], given["by"], given["tell"]))
-            return word, {"by": given.pop("by"), "from": given.pop("of"), **given, "tell": given["tell"] if tell is None else tell}
+            tell = given["tell"] if tell is None else tell
+            return word, {"by": given.pop("by"), "from": given.pop("of"), **given, "tell": tell}
         if word == "deliver":
             key = key_of(given["by"], given["to"], given["ask"])
             number = self.events.given.get(key) if key in self.came else None
@@ -306,8 +307,8 @@ class Drawn:
         return word, given
 
     def reads(self, number, tag):
-        """Two reads of a storage server with their answers, drawn apart: around the versions of its batches, most of keys
-        that it ever held."""
+        """Two reads of a storage server with their answers, drawn apart: around the versions of its batches, most of
+        keys that it ever held."""
         dice, server = random.Random(f"{self.seed} {number} reads"), self.events.nodes.storages[tag]
         past = self.events.rows[tag]
         keys = sorted({key.hex() for _, rows in past for key in rows}) or [self.config["shards"][tag]]

@@ -136,8 +136,8 @@ class Events:
         return fault
 
     def number(self, name, now):
-        """Numbers the asks that a node gives in a turn: by turns in which it asks the other, and only where the turn has
-        no other ask of it."""
+        """Numbers the asks that a node gives in a turn: by turns in which it asks the other, and only where the turn
+        has no other ask of it."""
         for to in [json.loads(it) for it in dict.fromkeys(json.dumps(to) for to, _ in now)]:
             asks = [ask for other, ask in now if other == to]
             number = self.numbers[key_of("asks", name, to)] = self.numbers.get(key_of("asks", name, to), -1) + 1
@@ -243,8 +243,8 @@ class Events:
         return last
 
     def read(self, tag, key, version):
-        """What a storage server answers a read: what its rows were once it had applied the last batch through a version, or
-        the name of why it does not say."""
+        """What a storage server answers a read: what its rows were once it had applied the last batch through a
+        version, or the name of why it does not say."""
         if not 0 <= tag < len(self.rows):
             return "NoSuchNode"
         server, key = self.nodes.storages[tag], bytes.fromhex(key)

@@ -102,7 +102,8 @@ class Nodes:
         elif who == "storage" and word == "pop":
             server = self.storages[it["tag"]]
             want(said["tag"] == it["tag"], "a storage server pops another tag")
-            want(said["epoch"] in [each[0] for each in server.state], "a storage server pops a generation that it has not")
+            is_own = said["epoch"] in [each[0] for each in server.state]
+            want(is_own, "a storage server pops a generation that it has not")
             want(said["through"] <= server.floor, "a storage server pops above its floor")
         else:
             want((who, word) in (("storage", "mark_asked"), ("proxy", "next")), who, "asks", word)
@@ -117,7 +118,8 @@ class Nodes:
             want((said["first"], said["seeded_to"]) == (recoverer.pev + 1, recoverer.rv), "a seed of another range")
         elif word == "push":
             want(recoverer.phase.startswith("chosen"), "a mark of a state that is not chosen")
-            mark = {"bodies": [], "epoch": recoverer.ballot, "known": recoverer.pev, "mark": batches.json_of(recoverer.state)}
+            mark = {"bodies": [], "epoch": recoverer.ballot, "known": recoverer.pev}
+            mark |= {"mark": batches.json_of(recoverer.state)}
             want(said == {**mark, "prev": recoverer.rv, "version": recoverer.rv + 1}, "another mark")
 
     def may_push(self, epoch, number, push, index):

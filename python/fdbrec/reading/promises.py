@@ -15,8 +15,8 @@ from .rules import FIRST, want
 
 
 class Promises:
-    """What nodes said so far, and what follows from it. `skip` makes the fold pass over the batch of one version, to see
-    that a fault is named."""
+    """What nodes said so far, and what follows from it. `skip` makes the fold pass over the batch of one version, to
+    see that a fault is named."""
 
     def __init__(self, config, skip=None):
         self.skip = skip
@@ -62,7 +62,8 @@ class Promises:
         while size and issued[size - 1][0] > least:
             size -= 1
         now = issued[:size]
-        want(now[: len(self.committed)] == self.committed, "committed: the list of", epoch, "does not begin with the one before")
+        is_longer = now[: len(self.committed)] == self.committed
+        want(is_longer, "committed: the list of", epoch, "does not begin with the one before")
         self.committed = now
 
     def is_committed(self, version, batch):
@@ -124,7 +125,8 @@ class Promises:
     def acknowledged(self, proxy, version):
         """The batch that a proxy has under way is acknowledged at a version."""
         batch = self.submitted[proxy["epoch"], proxy["number"]][-1]
-        want(self.is_committed(version, batch), "kept: version", version, "of", proxy, "is acknowledged and not committed")
+        is_so = self.is_committed(version, batch)
+        want(is_so, "kept: version", version, "of", proxy, "is acknowledged and not committed")
         self.kept.setdefault(version, []).append((proxy["epoch"], (version, batch)))
 
     def asked(self, name, what):
@@ -157,7 +159,8 @@ class Promises:
 
     def written(self, cell, ballot, value):
         state = batches.state_of(value)
-        want(state[-1][0] == ballot and self.states.setdefault(ballot, state) == state, "agreement: two states of", ballot)
+        is_one = state[-1][0] == ballot and self.states.setdefault(ballot, state) == state
+        want(is_one, "agreement: two states of", ballot)
         takers = self.takers.setdefault(ballot, set())
         takers.add(cell)
         if len(takers) == self.majority and ballot not in self.chosen:
@@ -170,7 +173,8 @@ class Promises:
             want(goes_on, "agreement: the states of", old, "and", new, "are no chain")
         first = self.states[ballot][0][3] if self.states[ballot].dropped else 0
         for tag, floor in enumerate(self.floors):
-            want(floor + 1 >= first, "removed: tag", tag, "has version", floor, "for good, and what is below", first, "is dropped")
+            what = "removed: tag", tag, "has version", floor, "for good, and what is below", first, "is dropped"
+            want(floor + 1 >= first, *what)
         self.chosen = sorted(self.chosen + [ballot])
         self.look()
 
@@ -203,7 +207,8 @@ class Promises:
         for other in self.chosen:
             after = [at for at in self.chosen if other < at < epoch]
             if other < epoch and not after:
-                parts = [self.shards[tag].clip(it[1]) for it in self.issued(other) if it[0] == version and it[1] is not None]
+                own = [it[1] for it in self.issued(other) if it[0] == version and it[1] is not None]
+                parts = [self.shards[tag].clip(each) for each in own]
                 want(version <= seeded_to and parts == [batch], "agreement: a seed of", epoch, "differs at", version)
 
     # the end
@@ -211,7 +216,8 @@ class Promises:
     def end(self):
         """All that was acknowledged stands, and what servers lack can be had where fewer than k logs are lost."""
         for version, held in self.kept.items():
-            want(all(self.is_committed(*it) for _, it in held), "kept: version", version, "was acknowledged, and is lost")
+            is_so = all(self.is_committed(*it) for _, it in held)
+            want(is_so, "kept: version", version, "was acknowledged, and is lost")
         state = self.states[self.chosen[-1]]
         if any(sum(1 for it in self.lost if it[0] == gen[0]) >= gen[2] for gen in state):
             return
@@ -223,4 +229,5 @@ class Promises:
                 _, m, k, _, _ = batches.generation_of(state, source)
                 holders = [(source, (tag + each) % m) for each in range(k)]
                 has = lambda it: self.durable.get(it, -1) >= version > self.popped.get((*it, tag), 0)
-                want(any(it not in self.lost and has(it) for it in holders), "kept: version", version, "cannot be had for tag", tag)
+                is_there = any(it not in self.lost and has(it) for it in holders)
+                want(is_there, "kept: version", version, "cannot be had for tag", tag)

@@ -65,12 +65,14 @@ class Log:
             return refused("not_mine")
         if self.seed is None:
             self.take_seed(seed)
-        left = lambda it: {**it, "records": [each for each in it["records"] if self.is_left(each["tag"], each["version"])]}
+        is_left = lambda each: self.is_left(each["tag"], each["version"])
+        left = lambda it: {**it, "records": [each for each in it["records"] if is_left(each)]}
         return {"seeded": {}} if left(self.seed) == left(seed) else refused("seed_differs")
 
     def push(self, push):
         held = self.pushes.get(push["version"])
-        left = lambda it: [it["prev"], it["mark"], [body for body in it["bodies"] if self.is_left(body[0], it["version"])]]
+        bodies = lambda it: [body for body in it["bodies"] if self.is_left(body[0], it["version"])]
+        left = lambda it: [it["prev"], it["mark"], bodies(it)]
         if held is not None and left(held) == left(push):
             return {"held": {"version": push["version"]}}
         if self.stopped:
@@ -118,7 +120,8 @@ class Log:
         given = above[: peek["most"]]
         upto = given[-1][0] if len(above) > len(given) else self.durable
         records = [{"batch": batch, "version": version} for version, batch in given]
-        return {"peeked": {"after": peek["after"], "known": self.known, "records": records, "tag": peek["tag"], "upto": upto}}
+        told = {"after": peek["after"], "known": self.known, "records": records, "tag": peek["tag"], "upto": upto}
+        return {"peeked": told}
 
     def mark_asked(self, _):
         for push in self.pushes.values():
@@ -335,7 +338,7 @@ class Storage:
         self.version = self.floor = 0
 
     def may_break(self, node, tell, version):
-        """Whether a hear breaks off at a version: one that is refused at none, one with nothing to take where it stands."""
+        """Whether a hear breaks off at a version: one that is refused at none, one with nothing to take where it is."""
         ((_, what),) = tell.items()
         ((name, said),) = what.items()
         stops = [self.version]
@@ -395,7 +398,8 @@ class Storage:
         end = batches.end_of(self.state, epoch)
         within = lambda version: version if end is None else min(version, end)
         stops = [self.version]
-        stops += [each["version"] for each in peeked["records"] if self.version < each["version"] == within(each["version"])]
+        versions = [each["version"] for each in peeked["records"]]
+        stops += [it for it in versions if self.version < it == within(it)]
         return stops + [max(stops[-1], within(peeked["upto"]))]
 
     def hear_peeked(self, epoch, peeked, taken):

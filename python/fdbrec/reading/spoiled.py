@@ -91,7 +91,8 @@ def further(lines, script):
 
 def less_taken_over(lines, script):
     """The state that is written takes over one version less, where that is acknowledged."""
-    kept = [act["outcome"]["committed"]["version"] for node, act in acts_of(script, "heard") if act["outcome"] and "committed" in act["outcome"]]
+    outcomes = [act["outcome"] or {} for _, act in acts_of(script, "heard")]
+    kept = [it["committed"]["version"] for it in outcomes if "committed" in it]
     for _, act, _ in tells(script, "written"):
         ask = act["ask"]["cell"]["write"]
         state = batches.state_of(ask["value"])

@@ -2,8 +2,7 @@
 the member, what is there and what is wanted."""
 import re
 
-from reading import forms, values
-
+from ..scripts import forms, values
 from .processes import Trouble, spoken
 
 # what a tell and an ask are called of the nodes that are asked

@@ -1,5 +1,5 @@
 """What scripts may have, by docs/FORMATS.md alone: the tables of forms, the steps of `simulate` and the limits. A form
-is a tuple of its kind and what belongs to it; `bench/reading/places.py` goes by them."""
+is a tuple of its kind and what belongs to it; `python/fdbrec/scripts/places.py` goes by them."""
 
 
 def number(least, most):

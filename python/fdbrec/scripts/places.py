@@ -1,6 +1,6 @@
 """Where a script is bad, by docs/FORMATS.md: `said_of(command, script)` is what stands behind `bad script`, or None of
-a script that is taken. Forms are those of `forms.py`; whether values that are in their forms go together is asked of the
-schemas, one part at a time."""
+a script that is taken. Forms are those of `forms.py`; whether values that are in their forms go together is asked of
+the schemas, one part at a time."""
 import json
 import math
 import re
@@ -34,7 +34,7 @@ class Value:
 
 
 class Text:
-    """A text that is read as JSON, token by token. A name and its colon are one token, and so are a value and its comma."""
+    """A text that is read as JSON, token by token. A name and its colon are one token; so are a value and its comma."""
 
     def __init__(self, text):
         self.text, self.at = text, 0

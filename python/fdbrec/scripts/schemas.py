@@ -1,12 +1,11 @@
-"""Whether a script has the form that the schemas of docs/schema say: `read` takes its bytes, `fault_of` says where it has
+"""Whether a script has the form that the schemas say: `read` takes its bytes, `fault_of` says where it has
 another form. It knows only those keywords that the schemas use."""
 import json
 import math
 import os
 import re
 
-TOP = os.path.dirname(os.path.dirname(os.path.dirname(os.path.realpath(__file__))))
-FOLDER = f"{TOP}/docs/schema"
+FOLDER = f"{os.path.dirname(os.path.realpath(__file__))}/schemas"
 DEEPEST = 127
 
 
@@ -85,7 +84,7 @@ SAYS_NOTHING = {"$schema", "$defs", "title", "description", "then"}
 
 
 class Schemas:
-    """The files of docs/schema, by name."""
+    """The files of schemas/, by name: those of docs/schema."""
 
     def __init__(self):
         self.files = {}
