@@ -8,7 +8,7 @@ import tempfile
 
 BENCH = os.path.dirname(os.path.realpath(__file__))
 TOP = os.path.dirname(BENCH)
-sys.path.insert(0, os.path.join(TOP, "docs"))
+sys.path[:0] = [os.path.join(TOP, "docs"), os.path.join(TOP, "python")]
 
 from making import validated  # noqa: E402
 

@@ -1,4 +1,4 @@
-"""Lines played to nodes: those of `lines.py`, those of journals that bench/reading draws, and bad ones."""
+"""Lines played to nodes: those of `lines.py`, those of journals that fdbrec.reading draws, and bad ones."""
 
 import json
 import os
@@ -9,10 +9,10 @@ import tempfile
 import built
 import lines
 
-sys.path.insert(0, f"{built.TOP}/bench")
+sys.path.insert(0, f"{built.TOP}/python")
 
-from reading import judging
-from reading.drawing import Drawn
+from fdbrec.reading import judging
+from fdbrec.reading.drawing import Drawn
 
 PATIENCE = built.patience(60)
 
@@ -138,7 +138,7 @@ def shape_words(journal):
 
 
 def drawn(checks, command, seeds, events=400):
-    """Each node of worlds that bench/reading draws is given what it was asked and heard there, and has to enter the
+    """Each node of worlds that fdbrec.reading draws is given what it was asked and heard there, and has to enter the
     same. A crash is passed over, since it changes nothing; a node whose hear broke off is left there."""
     for seed in seeds:
         world = Drawn(seed).play(events).events

@@ -1,19 +1,14 @@
 """What the tests of the page of a run share: runs, the pages that bench/explore makes of them, and a browser with one."""
-import importlib.machinery
-import importlib.util
 import json
 import os
 import subprocess
 import sys
 
 TOP = os.path.dirname(os.path.dirname(os.path.realpath(__file__)))
-sys.path[:0] = [f"{TOP}/bench", f"{TOP}/bench/exploring"]
+sys.path.insert(0, f"{TOP}/python")
 
 import browser
-
-loader = importlib.machinery.SourceFileLoader("explore", f"{TOP}/bench/explore")
-explore = importlib.util.module_from_spec(importlib.util.spec_from_loader("explore", loader))
-loader.exec_module(explore)
+from fdbrec.commands import explore
 
 SET = lambda key, value: {"set": {"key": key, "value": value}}
 COMMIT = lambda epoch, batch, logs: {"commit": {"batch": batch, "epoch": epoch, "logs": logs, "proxy": 0, "step": 1}}

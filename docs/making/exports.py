@@ -9,7 +9,7 @@ CALLS = "crates/fr_part/src/calls"
 STATUSES = f"{CALLS}/status.rt"
 HEADER = "include/fdbrec.h"
 RUST = "bindings/rust/fdbrec-sys/src/lib.rs"
-PYTHON = "bindings/python/fdbrec.py"
+PYTHON = "python/fdbrec/library.py"
 
 # What a parameter or a field of Rattle is in C: each with what stands behind its name.
 IN_C = {

@@ -63,6 +63,8 @@ def formats(text):
 # ---- schemas
 
 MORE = "docs/making/schemas.json"
+# for readers and other validators, and as data of the package
+FOLDERS = ("docs/schema", "python/fdbrec/scripts/schemas")
 SCRIPTS = ("apply", "end", "simulate", "audit")
 LOG_ASK, LOG_TELL, STATE = f"{ASK} log", f"{TELL} log", f"{TELL} log marked state"
 STEPS = "simulate steps *"
@@ -222,4 +224,5 @@ def limited(it, member=""):
 def schemas():
     """The text of each schema that is made of the table."""
     made = Schemas()
-    return {f"docs/schema/{file}.json": made.page(file) for file in DEFS}
+    pages = {f"{folder}/{file}.json": made.page(file) for file in DEFS for folder in FOLDERS}
+    return pages | {f"{FOLDERS[1]}/cluster.json": read(f"{FOLDERS[0]}/cluster.json")}

@@ -1,14 +1,14 @@
-"""docs/play.html: the playground as one page, of the parts in docs/playing and of the rules in bench/exploring."""
+"""docs/play.html: the playground as one page, of the parts in docs/playing and of the rules in python/fdbrec/exploring."""
 from making.sources import read
 
 RULES = ("values", "rules", "recoverer")
 PARTS = ("world", "choices", "facts", "tale", "scenes", "bands", "board", "motion", "panel", "page", "doing")
-MADE = "<!-- docs/tables makes this page of docs/playing and bench/exploring: change those. -->\n"
+MADE = "<!-- docs/tables makes this page of docs/playing and python/fdbrec/exploring: change those. -->\n"
 
 
 def play():
     """The page."""
-    scripts = [read(f"bench/exploring/{it}.js") for it in RULES] + [read(f"docs/playing/{it}.js") for it in PARTS]
+    scripts = [read(f"python/fdbrec/exploring/{it}.js") for it in RULES] + [read(f"docs/playing/{it}.js") for it in PARTS]
     page = read("docs/playing/page.html").replace("@STYLE@", read("docs/playing/style.css").rstrip("\n"))
     page = page.replace("@SCRIPTS@", "\n".join(scripts).replace("</", "<\\/").rstrip("\n"))
     return page.replace("<html", MADE + "<html", 1)

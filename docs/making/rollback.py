@@ -1,6 +1,6 @@
 """docs/rollback.svg: README's moving picture, of the rollback in examples/audit_numbers_again.json.
 
-What is shown, and in which order, is read off the journals by the rules in bench/reading. A picture that does not move
+What is shown, and in which order, is read off the journals by the rules in python/fdbrec/reading. A picture that does not move
 shows the moment of the rollback, and so does the first of one that does."""
 import json
 import sys
@@ -53,9 +53,9 @@ class Film:
 
 def entries():
     """Each entry with its node and act, and the nodes by the rules as they stand after it."""
-    sys.path.insert(0, f"{TOP}/bench")
-    from reading import judging
-    from reading.events import Events
+    sys.path.insert(0, f"{TOP}/python")
+    from fdbrec.reading import judging
+    from fdbrec.reading.events import Events
 
     script = json.loads(read(SOURCE))
     events = Events(script["config"])

@@ -7,9 +7,9 @@ import subprocess
 import sys
 
 TOP = os.path.dirname(os.path.dirname(os.path.dirname(os.path.realpath(__file__))))
-sys.path.insert(0, f"{TOP}/bench")
+sys.path.insert(0, f"{TOP}/python")
 
-from reading import schemas  # noqa: E402
+from fdbrec.scripts import schemas  # noqa: E402
 
 
 def examples():

@@ -85,10 +85,10 @@ def read_input():
 
 def look_at_script(command, given, top=crates.TOP):
     """Refuses what is no script of a command, by the place at which it is none, as the program says it."""
-    sys.path.insert(0, f"{top}/bench")
-    from reading import commands
+    sys.path.insert(0, f"{top}/python")
+    from fdbrec.commands import ending
 
     try:
-        commands.script_of(command, given)
-    except commands.BadScript as why:
+        ending.script_of(command, given)
+    except ending.BadScript as why:
         raise Refused(f"bad script: {why}", 2) from None
