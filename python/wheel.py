@@ -9,7 +9,7 @@ import zipfile
 
 ABOUT = "Metadata-Version: 2.1\nName: fdbrec\nVersion: {}\nRequires-Python: >=3.9\nLicense: Apache-2.0\n"
 WHEEL = "Wheel-Version: 1.0\nGenerator: fdbrec\nRoot-Is-Purelib: true\nTag: py3-none-any\n"
-PACKED = (".py", ".js", ".html", ".json")
+PACKED = (".py", ".js", ".html", ".css", ".json")
 
 
 def build_wheel(wheel_directory, config_settings=None, metadata_directory=None):

@@ -1,7 +1,7 @@
 """docs/rollback.svg: README's moving picture, of the rollback in examples/audit_numbers_again.json.
 
-What is shown, and in which order, is read off the journals by the rules in python/fdbrec/reading. A picture that does not move
-shows the moment of the rollback, and so does the first of one that does."""
+What is shown, and in which order, is read off the journals by the rules in python/fdbrec/reading. A picture that does
+not move shows the moment of the rollback, and so does the first of one that does."""
 import json
 import sys
 from html import escape
