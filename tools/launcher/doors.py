@@ -83,12 +83,20 @@ def read_input():
         raise Refused(f"input failed: {why.strerror}", 4) from None
 
 
-def look_at_script(command, given, top=crates.TOP):
-    """Refuses what is no script of a command, by the place at which it is none, as the program says it."""
+def look_at_script(command, given):
+    """Refuses what is no script of a command, by the place at which it is none."""
+    lack = lack_of_script(command, given)
+    if lack:
+        raise Refused(lack.decode().rstrip("\n"), 2)
+
+
+def lack_of_script(command, given, top=crates.TOP):
+    """The line by which the program refuses a script, or None."""
     sys.path.insert(0, f"{top}/python")
     from fdbrec.commands import ending
 
     try:
         ending.script_of(command, given)
     except ending.BadScript as why:
-        raise Refused(f"bad script: {why}", 2) from None
+        return f"bad script: {why}\n".encode(errors="backslashreplace")
+    return None

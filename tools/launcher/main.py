@@ -59,6 +59,46 @@ def run(program, words, given=None):
     os.execv(program, ["fdbrec", *words])
 
 
+def run_small(program, words, given=None):
+    """Runs the small program of apply, and ends as it does. It says of a bad script only that it is one: the place and
+    the cause are said in its stead, as the whole program says them."""
+    import signal
+    import subprocess
+    import tempfile
+
+    with tempfile.TemporaryFile() as it:
+        try:
+            begin = os.lseek(0, 0, os.SEEK_CUR)
+        except OSError:
+            begin = None
+        if given is not None or begin is None:
+            # (what comes through a pipe is kept, to be read again)
+            it.write(given) if given is not None else shutil.copyfileobj(sys.stdin.buffer, it)
+            it.flush()
+            begin = it.seek(0)
+            os.dup2(it.fileno(), 0)
+        signal.signal(signal.SIGINT, signal.SIG_IGN)
+        how = {"executable": program, "stderr": subprocess.PIPE, "preexec_fn": default_interrupt}
+        ran = subprocess.run(["fdbrec", *words], **how)
+        said = ran.stderr
+        if (ran.returncode, said) == (BAD, b"bad script\n"):
+            os.lseek(0, begin, os.SEEK_SET)
+            with open(0, "rb", closefd=False) as script:
+                said = doors.lack_of_script("apply", script.read()) or said
+        sys.stderr.buffer.write(said)
+        sys.stderr.flush()
+    if ran.returncode < 0:
+        signal.signal(-ran.returncode, signal.SIG_DFL)
+        os.kill(os.getpid(), -ran.returncode)
+    return ran.returncode
+
+
+def default_interrupt():
+    import signal
+
+    signal.signal(signal.SIGINT, signal.SIG_DFL)
+
+
 def need_rt():
     if not shutil.which("rt"):
         say("the program is not built, and the command rt of a Rattle kit, which builds it, is not on the")
@@ -84,6 +124,8 @@ def run_quick(crate, words, look):
         found = unproved.keep(crate, say)
     if found:
         say(f"unproved: {os.path.relpath(found, TOP)}")
+        if os.path.basename(found) == "fdbrec_apply":
+            sys.exit(run_small(found, words, given))
         run(found, words, given)
     say("unproved: this kit keeps no program that rt try compiles, so it is compiled for this call alone")
     os.chdir(f"{TOP}/crates/{crate}")
@@ -171,4 +213,6 @@ def run_words(words, read, is_quick):
         need_rt()
         given = look()
         build(crate)
-    run(crates.program_of(crate), words, given)
+    if crate == "fdbrec_apply":
+        return run_small(crates.program_of(crate), words, given)
+    return run(crates.program_of(crate), words, given)
