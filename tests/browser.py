@@ -9,7 +9,7 @@ import subprocess
 import tempfile
 import time
 
-# how long it may say nothing
+# how long it may say nothing, and take for one call
 SECONDS = 90
 
 
@@ -93,8 +93,11 @@ class Browser:
         text = json.dumps(ask).encode() + b"\0"
         while text:
             text = text[os.write(self.ask, text) :]
+        begun = time.monotonic()
         while True:
             got = self.message()
+            if time.monotonic() - begun > SECONDS:
+                raise Fault(f"{method} took more than {SECONDS} seconds")
             if got.get("id") == self.number:
                 if "error" in got:
                     raise Fault(f"{method}: {got['error']['message']}")

@@ -1,8 +1,9 @@
-"""What the tests of the page of a run share: runs, the pages that bench/explore makes of them, and a browser with one."""
+"""What the tests of the page of a run share: runs, the pages that bench/explore makes of them, and a browser."""
 import json
 import os
 import subprocess
 import sys
+import tempfile
 
 TOP = os.path.dirname(os.path.dirname(os.path.realpath(__file__)))
 sys.path.insert(0, f"{TOP}/python")
@@ -43,6 +44,12 @@ def same(got, wanted, what):
 def example(name):
     with open(f"{TOP}/examples/{name}", encoding="utf-8") as it:
         return it.read()
+
+
+def foreign():
+    """A run of examples/foreign, in which a log is lost, and the recoverer of ballot 513 overtaken by that of 514."""
+    words = [f"{TOP}/examples/foreign/cluster", "--seed", "1"]
+    return subprocess.run(words, capture_output=True, text=True, check=True).stdout
 
 
 def explored(script, *words):
@@ -98,3 +105,20 @@ def broken():
             peeked = next(e for e in journal["entries"] if "peek" in e["act"]["asked"]["ask"]["log"])
             peeked["act"]["asked"]["tell"]["log"]["peeked"]["records"].pop()
     return script
+
+
+def tried(name, tests, words):
+    """Tries some tests in one browser, or those of them that are named; answers the status."""
+    if browser.program() is None:
+        print(f"{name}: skipped: no browser here: apt-get install chromium (Debian's package chromium)")
+        return 77
+    try:
+        with tempfile.TemporaryDirectory() as room, browser.Browser() as it:
+            for test in tests:
+                if not words or test.__name__ in words:
+                    test(it, room)
+                    print(f"{name}: {test.__name__}: as expected")
+    except (Fault, browser.Fault) as fault:
+        print(f"{name}: {fault}")
+        return 1
+    return 0
