@@ -7,10 +7,10 @@ import threading
 
 
 class Journal:
-    """The journal of one node. A call writes one line and returns its stamp, which the node's next messages carry."""
+    """What one node did. A call writes one line and returns its stamp, which the node's next messages carry."""
 
     def __init__(self, path, node, clock=0):
-        """A file that is there goes on, after a restart. `clock`: the stamp of the act from which the node exists."""
+        """Goes on in a file that is there. `clock`: the stamp of the act from which the node exists."""
         self.lock, self.file = threading.Lock(), open(path, "a+", encoding="ascii")
         self.file.seek(0)
         text = self.file.read()
