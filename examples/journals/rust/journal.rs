@@ -42,9 +42,17 @@ impl Journal {
         self.enter(format!("{{\"asked\":{{\"from\":{from},\"ask\":{ask},\"tell\":{tell}}}}}"), seen)
     }
 
-    /// `outcome`: a proxy's, of its batch; `null` at other nodes. (`taken` is of answers that are applied in part.)
-    pub fn heard(&self, from: impl Display, tell: impl Display, outcome: impl Display, seen: u64) -> io::Result<u64> {
-        let its = format!("\"from\":{from},\"tell\":{tell},\"outcome\":{outcome},\"taken\":null");
+    /// `outcome` is `null` but at a proxy, `taken` but for an answer that a storage server applied in part.
+    pub fn heard(
+        &self,
+        from: impl Display,
+        tell: impl Display,
+        outcome: impl Display,
+        taken: Option<u64>,
+        seen: u64,
+    ) -> io::Result<u64> {
+        let taken = taken.map_or("null".to_string(), |version| version.to_string());
+        let its = format!("\"from\":{from},\"tell\":{tell},\"outcome\":{outcome},\"taken\":{taken}");
         self.enter(format!("{{\"heard\":{{{its}}}}}"), seen)
     }
 

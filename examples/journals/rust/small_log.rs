@@ -189,7 +189,7 @@ impl Proxy {
         let stamp = self.journal.submitted(&batch, 1)?;
         let ask = Ask::Next { proxy: self.number, request: self.request };
         let (tell, seen) = cluster.sequencer.ask(&self.name, &ask, stamp)?;
-        let mut stamp = self.journal.heard(&cluster.sequencer.name, &tell, WAITING, seen)?;
+        let mut stamp = self.journal.heard(&cluster.sequencer.name, &tell, WAITING, None, seen)?;
         let (prev, version) = match tell {
             Tell::Numbered { prev, version, .. } => (prev, version),
             _ => return Ok(()),
@@ -215,7 +215,7 @@ impl Proxy {
                     thread::sleep(Duration::from_millis(1));
                 }
             }
-            stamp = self.journal.heard(&log.name, &tell, outcome, seen)?;
+            stamp = self.journal.heard(&log.name, &tell, outcome, None, seen)?;
         }
         Ok(())
     }
@@ -242,9 +242,9 @@ impl Storage {
             self.version = self.version.max(*upto);
             self.floor = self.floor.max(self.version.min(*known));
         }
-        let stamp = self.journal.heard(&log.name, &tell, "null", seen)?;
+        let stamp = self.journal.heard(&log.name, &tell, "null", None, seen)?;
         let (tell, seen) = log.ask(&self.name, &Ask::Pop { through: self.floor }, stamp)?;
-        self.stamp = self.journal.heard(&log.name, &tell, "null", seen)?;
+        self.stamp = self.journal.heard(&log.name, &tell, "null", None, seen)?;
         Ok(())
     }
 
@@ -268,10 +268,10 @@ struct Cluster {
 fn recover(cluster: &Cluster, name: &str, journal: &Journal) -> io::Result<()> {
     let stamp = journal.enter(r#"{"begun":{}}"#, 0)?;
     let (tell, seen) = cluster.cell.ask(name, &Ask::Read { ballot: 513 }, stamp)?;
-    let mut stamp = journal.heard(&cluster.cell.name, tell, "null", seen)?;
+    let mut stamp = journal.heard(&cluster.cell.name, tell, "null", None, seen)?;
     for log in &cluster.logs {
         let (tell, seen) = log.ask(name, &Ask::Lock, stamp)?;
-        stamp = journal.heard(&log.name, tell, "null", seen)?;
+        stamp = journal.heard(&log.name, tell, "null", None, seen)?;
     }
     Ok(())
 }
