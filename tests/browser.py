@@ -116,7 +116,8 @@ class Browser:
         begun = time.monotonic()
         self.call("Page.navigate", url=f"file://{path}" + (f"#{words}" if words else ""))
         taken = []
-        for is_so in ("document.readyState === 'complete' && typeof page !== 'undefined' && page !== null", "page.run.isDone"):
+        is_there = "document.readyState === 'complete' && typeof page !== 'undefined' && page !== null"
+        for is_so in (is_there, "page.run.isDone"):
             while self.value(is_so) is not True:
                 self.refuse_faults()
                 if time.monotonic() - begun > 60:
