@@ -8,7 +8,7 @@ Object.assign(Picture.prototype, {
     for (const it of run.batches) {
       const a = this.column(it.at), b = it.ended === null ? count : this.column(it.ended);
       if (b < seen[0] || a > seen[1]) continue;
-      const texts = [`${batchName(it)}: ${it.fate}`, `batch ${it.number}: ${it.fate}`, `batch ${it.number}`, `${it.number}`];
+      const texts = [`${batchName(it)}: ${it.fate}`, `batch ${it.number}: ${it.fate}`, `batch ${it.number}`];
       this.bar(it.node, a, b, texts, BARS[it.fate], () => `${batchName(it)}: ${it.fate}. ${FATES[it.fate]} It is: ${batchText(it.batch)}.`, it.at);
     }
     for (const it of run.rollbacks) {
