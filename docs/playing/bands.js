@@ -121,7 +121,7 @@ class Bands {
   /** A lane for a node's tokens, with its door behind. */
   rail(node, y, rows) {
     const { lane, left, right, door, label } = this, place = { x: left - label + 8, y, wide: label - 8, high: lane };
-    const at = { x: right + 6, y: y + (lane - PILL) / 2, wide: door - 8, rows };
+    const at = { x: right + 6, y: y + (lane - PILL) / 2, wide: door - (this.isNarrow ? 4 : 8), rows };
     this.anchors.set(node.code, { ...place, door: at });
     this.under.push(tag("path", { d: `M${left} ${y + lane / 2}H${right}`, class: "rail" }));
   }

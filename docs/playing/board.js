@@ -12,7 +12,7 @@ class Board extends Bands {
   draw(world, selected) {
     const width = Math.max(300, Math.floor(this.host.clientWidth)), isNarrow = width < 640;
     Object.assign(this, { world, selected, width, isNarrow, pad: isNarrow ? 8 : 14, under: [], over: [], pills: [] });
-    Object.assign(this, { label: isNarrow ? 74 : 116, door: isNarrow ? 78 : 184, lane: isNarrow ? 27 : 30 });
+    Object.assign(this, { label: isNarrow ? 74 : 116, door: isNarrow ? 86 : 184, lane: isNarrow ? 27 : 30 });
     this.anchors.clear();
     this.measure();
     let y = this.drawTop(this.pad);
@@ -38,7 +38,7 @@ class Board extends Bands {
     const numbers = world.batches.map((it) => it.version ?? 0), most = Math.max(4, ...held, ...numbers);
     const wide = width - pad - door - this.left;
     const wanted = [8, 12, 16, 24].find((it) => it > most) ?? 24;
-    this.count = Math.max(4, Math.min(wanted, Math.floor(wide / (isNarrow ? 27 : 33))));
+    this.count = Math.max(4, Math.min(Math.max(wanted, Math.floor(wide / 64)), Math.floor(wide / (isNarrow ? 27 : 33))));
     this.column = Math.min(64, wide / this.count);
     this.token = Math.max(21, Math.min(40, this.column - 10));
     this.from = Math.max(1, most - this.count + 1);
