@@ -45,14 +45,18 @@ class Bands {
     if (cut === Infinity) return isLocked ? ["locked", "bad"] : ["open", "good"];
     return cut === null ? ["not chosen", "bad"] : [`ended; taken over through ${cut}`, "soft"];
   }
-  drawFolded(it, y) {
-    const { pad, width, world, door } = this, high = 26, number = epochOf(it.epoch);
-    const words = `Epoch ${number}: ${this.standing(it)[0]}`, place = { x: width - pad - door - 30, y, wide: 20, high };
+  /** One line for folded generations that follow one another. */
+  drawFolded(group, y) {
+    const { pad, width, world, door } = this, high = 26, numbers = group.map((it) => epochOf(it.epoch));
+    const [last] = numbers.slice(-1), many = `Epochs ${numbers.slice(0, -1).join(", ")} and ${last}`;
+    const words = group.length > 1 ? many : `Epoch ${last}: ${this.standing(group[0])[0]}`;
     const shown = [tag("rect", { width: width - 2 * pad, height: high, rx: 8 }), text(12, 17, `▸ ${words}`, "words")];
-    this.under.push(this.button(`f:${number}`, `${words}. Show it.`, pad, y, "fold", shown));
+    this.under.push(this.button(`f:${numbers.join("-")}`, `${words}. Show.`, pad, y, "fold", shown));
+    const place = { x: width - pad - door - 30, y, wide: 20, high };
+    const at = { x: width - pad - door, y: y + 4, wide: door, rows: 1 };
+    const isIn = (node) => node.kind !== "recoverer" && numbers.includes(epochOf(node.epoch ?? 0));
     for (const node of world.nodes.values())
-      if (node.epoch === it.epoch && node.kind !== "recoverer")
-        this.anchors.set(node.code, { ...place, door: { x: width - pad - door, y: y + 4, wide: door, rows: 1 } });
+      if (isIn(node)) this.anchors.set(node.code, { ...place, door: at });
     return y + high + 8;
   }
   drawBand(it, y) {
@@ -72,7 +76,7 @@ class Bands {
     this.under.push(
       tag("rect", { x: pad, y, width: width - 2 * pad, height, rx: 12, class: `band ${kind}` }),
       text(pad + 12, y + 19, `Epoch ${epochOf(it.epoch)}`, "epoch"),
-      text(pad + 84, y + 19, this.cut(words, width - 236), `standing ${kind}`),
+      text(pad + 92, y + 19, this.cut(words, width - 244), `standing ${kind}`),
       text(width - pad - 12, y + 19, `m = ${m}, k = ${k}`, "shape")
     );
   }

@@ -16,8 +16,15 @@ class Board extends Bands {
     this.anchors.clear();
     this.measure();
     let y = this.drawTop(this.pad);
-    const bands = this.bands();
-    for (const it of bands) y = it.isFolded ? this.drawFolded(it, y) : this.drawBand(it, y);
+    let folded = [];
+    for (const it of this.bands()) {
+      if (it.isFolded) folded.push(it);
+      else {
+        if (folded.length) y = this.drawFolded(folded, y);
+        [folded, y] = [[], this.drawBand(it, y)];
+      }
+    }
+    if (folded.length) y = this.drawFolded(folded, y);
     y = this.drawServers(y);
     this.drawPills();
     const inside = [this.under, this.wires(), this.over, this.pills.map((it) => it.shown)];
