@@ -48,7 +48,7 @@ class Bands {
   /** One line for folded generations that follow one another. */
   drawFolded(group, y) {
     const { pad, width, world, door } = this, high = 26, numbers = group.map((it) => epochOf(it.epoch));
-    const [last] = numbers.slice(-1), many = `Epochs ${numbers.slice(0, -1).join(", ")} and ${last}`;
+    const [last] = numbers.slice(-1), many = `Epochs ${numbers[0]} to ${last}`;
     const words = group.length > 1 ? many : `Epoch ${last}: ${this.standing(group[0])[0]}`;
     const shown = [tag("rect", { width: width - 2 * pad, height: high, rx: 8 }), text(12, 17, `▸ ${words}`, "words")];
     this.under.push(this.button(`f:${numbers.join("-")}`, `${words}. Show.`, pad, y, "fold", shown));
