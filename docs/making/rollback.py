@@ -28,7 +28,7 @@ svg{--paper:#f4f5f3;--card:#fff;--ink:#191d23;--soft:#56606c;--line:#cfd4d9;--go
 .open rect,.undone rect{fill:var(--card)}.open rect{stroke-width:3.4}.undone rect{stroke-dasharray:5 4}
 .cross{stroke:var(--bad);stroke-width:3;fill:none;stroke-linecap:round}.rail{stroke:var(--line);stroke-dasharray:2 5}
 .band{fill:var(--card);stroke:var(--line)}.cut{stroke:var(--bad);stroke-width:2.4;stroke-dasharray:7 4}
-.lock{fill:none;stroke:var(--soft);stroke-width:1.6}
+svg>g{transform-box:fill-box;transform-origin:center}.lock{fill:none;stroke:var(--soft);stroke-width:1.6}
 """
 
 

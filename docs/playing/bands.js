@@ -45,14 +45,18 @@ class Bands {
     if (cut === Infinity) return isLocked ? ["locked", "bad"] : ["open", "good"];
     return cut === null ? ["not chosen", "bad"] : [`ended; taken over through ${cut}`, "soft"];
   }
-  drawFolded(it, y) {
-    const { pad, width, world, door } = this, high = 26, number = epochOf(it.epoch);
-    const words = `Epoch ${number}: ${this.standing(it)[0]}`, place = { x: width - pad - door - 30, y, wide: 20, high };
+  /** One line for folded generations that follow one another. */
+  drawFolded(group, y) {
+    const { pad, width, world, door } = this, high = 26, numbers = group.map((it) => epochOf(it.epoch));
+    const [last] = numbers.slice(-1), many = `Epochs ${numbers[0]} to ${last}`;
+    const words = group.length > 1 ? many : `Epoch ${last}: ${this.standing(group[0])[0]}`;
     const shown = [tag("rect", { width: width - 2 * pad, height: high, rx: 8 }), text(12, 17, `▸ ${words}`, "words")];
-    this.under.push(this.button(`f:${number}`, `${words}. Show it.`, pad, y, "fold", shown));
+    this.under.push(this.button(`f:${numbers.join("-")}`, `${words}. Show.`, pad, y, "fold", shown));
+    const place = { x: width - pad - door - 30, y, wide: 20, high };
+    const at = { x: width - pad - door, y: y + 4, wide: door, rows: 1 };
+    const isIn = (node) => node.kind !== "recoverer" && numbers.includes(epochOf(node.epoch ?? 0));
     for (const node of world.nodes.values())
-      if (node.epoch === it.epoch && node.kind !== "recoverer")
-        this.anchors.set(node.code, { ...place, door: { x: width - pad - door, y: y + 4, wide: door, rows: 1 } });
+      if (isIn(node)) this.anchors.set(node.code, { ...place, door: at });
     return y + high + 8;
   }
   drawBand(it, y) {
@@ -72,7 +76,7 @@ class Bands {
     this.under.push(
       tag("rect", { x: pad, y, width: width - 2 * pad, height, rx: 12, class: `band ${kind}` }),
       text(pad + 12, y + 19, `Epoch ${epochOf(it.epoch)}`, "epoch"),
-      text(pad + 84, y + 19, this.cut(words, width - 236), `standing ${kind}`),
+      text(pad + 92, y + 19, this.cut(words, width - 244), `standing ${kind}`),
       text(width - pad - 12, y + 19, `m = ${m}, k = ${k}`, "shape")
     );
   }
@@ -121,7 +125,7 @@ class Bands {
   /** A lane for a node's tokens, with its door behind. */
   rail(node, y, rows) {
     const { lane, left, right, door, label } = this, place = { x: left - label + 8, y, wide: label - 8, high: lane };
-    const at = { x: right + 6, y: y + (lane - PILL) / 2, wide: door - 8, rows };
+    const at = { x: right + 6, y: y + (lane - PILL) / 2, wide: door - (this.isNarrow ? 4 : 8), rows };
     this.anchors.set(node.code, { ...place, door: at });
     this.under.push(tag("path", { d: `M${left} ${y + lane / 2}H${right}`, class: "rail" }));
   }

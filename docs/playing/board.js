@@ -12,12 +12,19 @@ class Board extends Bands {
   draw(world, selected) {
     const width = Math.max(300, Math.floor(this.host.clientWidth)), isNarrow = width < 640;
     Object.assign(this, { world, selected, width, isNarrow, pad: isNarrow ? 8 : 14, under: [], over: [], pills: [] });
-    Object.assign(this, { label: isNarrow ? 74 : 116, door: isNarrow ? 78 : 184, lane: isNarrow ? 27 : 30 });
+    Object.assign(this, { label: isNarrow ? 74 : 116, door: isNarrow ? 86 : 184, lane: isNarrow ? 27 : 30 });
     this.anchors.clear();
     this.measure();
     let y = this.drawTop(this.pad);
-    const bands = this.bands();
-    for (const it of bands) y = it.isFolded ? this.drawFolded(it, y) : this.drawBand(it, y);
+    let folded = [];
+    for (const it of this.bands()) {
+      if (it.isFolded) folded.push(it);
+      else {
+        if (folded.length) y = this.drawFolded(folded, y);
+        [folded, y] = [[], this.drawBand(it, y)];
+      }
+    }
+    if (folded.length) y = this.drawFolded(folded, y);
     y = this.drawServers(y);
     this.drawPills();
     const inside = [this.under, this.wires(), this.over, this.pills.map((it) => it.shown)];
@@ -38,7 +45,7 @@ class Board extends Bands {
     const numbers = world.batches.map((it) => it.version ?? 0), most = Math.max(4, ...held, ...numbers);
     const wide = width - pad - door - this.left;
     const wanted = [8, 12, 16, 24].find((it) => it > most) ?? 24;
-    this.count = Math.max(4, Math.min(wanted, Math.floor(wide / (isNarrow ? 27 : 33))));
+    this.count = Math.max(4, Math.min(Math.max(wanted, Math.floor(wide / 64)), Math.floor(wide / (isNarrow ? 27 : 33))));
     this.column = Math.min(64, wide / this.count);
     this.token = Math.max(21, Math.min(40, this.column - 10));
     this.from = Math.max(1, most - this.count + 1);

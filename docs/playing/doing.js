@@ -88,7 +88,7 @@ Object.assign(Page.prototype, {
   press(key, byKey = false) {
     const [kind, code] = [key[0], key.slice(2)];
     if (kind === "f") {
-      this.board.unfolded.add(ballotOf(Number(code)));
+      for (const it of code.split("-")) this.board.unfolded.add(ballotOf(Number(it)));
       return this.show(0);
     }
     const selected = kind === "m" ? `m${code}` : code;

@@ -11,9 +11,8 @@ class Motion {
   /** Keeps where everything is, before the board is drawn anew. */
   before() {
     this.old = new Map();
-    for (
-      const it of this.board.host.querySelectorAll("[data-key]")
-    ) this.old.set(it.dataset.key, { ...placeOf(it), shown: it });
+    for (const it of this.board.host.querySelectorAll("[data-key]"))
+      this.old.set(it.dataset.key, { ...placeOf(it), shown: it });
   }
   /** Moves what moved; a move takes `slow` milliseconds, and `to` is the node at which a message arrived. */
   after(slow, choice, to) {
@@ -21,6 +20,8 @@ class Motion {
     const now = new Map();
     for (const it of this.board.host.querySelectorAll("[data-key]")) now.set(it.dataset.key, it);
     for (const [key, it] of now) this.moved(key, it, slow);
+    const shape = to && now.get(`n:${to}`)?.querySelector("rect");
+    if (shape) shape.animate([{ stroke: "var(--now)", strokeWidth: "5px" }, {}], { duration: slow * 1.6 });
     for (const [key, it] of this.old) {
       const isArrived = to && key === `m:${choice.slice(1)}`;
       if (!now.has(key) && /^[mt]:/.test(key)) this.left(it, slow, isArrived ? this.board.anchors.get(to) : null);

@@ -123,7 +123,12 @@ def main(words):
     name = "standard input"
     if len(words) == 2 and words[0] == "--name":
         name, words = words[1], []
-    ending.no_words(words, "explore")
+    if words[:1] == ["--name"]:
+        raise ending.BadWords(f"one name goes with it: {ending.called('explore')} --name NAME < SCRIPT > RUN.html")
+    try:
+        ending.no_words(words, "explore")
+    except ending.BadWords as why:
+        raise ending.BadWords(f"{why}, and --name NAME") from None
     ending.write(page_of(journals_of(ending.given()), name))
     return 0
 
