@@ -99,14 +99,16 @@ def default_interrupt():
     signal.signal(signal.SIGINT, signal.SIG_DFL)
 
 
-def need_rt():
+def need_rt(command):
     if not shutil.which("rt"):
         say("the program is not built, and the command rt of a Rattle kit, which builds it, is not on the")
         say("PATH; README.md says what a kit is")
+        if command == "audit":
+            say("without a kit bench/judge, which is not proved, says the same: bench/judge < SCRIPT")
         sys.exit(NO_KIT)
 
 
-def run_quick(crate, words, look):
+def run_quick(crate, words, command, look):
     """Runs words unproved: by the program that was kept, or else after it was compiled. `look` gives standard input, if
     the words want a script, and refuses what is none."""
     import subprocess
@@ -117,7 +119,7 @@ def run_quick(crate, words, look):
     found = next(filter(None, map(unproved.kept, names)), None)
     given = None
     if not found:
-        need_rt()
+        need_rt(command)
         given = look()
         takes = "a minute or two" if crate == "fdbrec_apply" else "some five minutes"
         say(f"compiles the program without its proofs, once: {takes} of a processor")
@@ -159,10 +161,10 @@ def show(shown):
     if shown.is_version:
         print(version())
         return 0
-    if not shown.names:
-        say("a node as a process: fdbrec node --help")
     sys.stdout.write(help_of(shown.names))
+    sys.stdout.flush()
     if not shown.names:
+        say("a node as a process: fdbrec node --help; --quick, in any place, runs a command without its proofs")
         say_unbuilt()
     return 0
 
@@ -209,8 +211,8 @@ def run_words(words, read, is_quick):
         given = doors.read_input()
     if not crates.is_built(crate):
         if is_quick:
-            run_quick(crate, words, look)
-        need_rt()
+            run_quick(crate, words, command, look)
+        need_rt(command)
         given = look()
         build(crate)
     if crate == "fdbrec_apply":

@@ -111,5 +111,13 @@ NODES = Command("fdbrec", below=(NODE,), has_version=True)
 ALL = Command("fdbrec", below=(*PROGRAM.below, NODE), has_version=True)
 
 COMMANDS = tuple(it.name for it in PROGRAM.below)
+# Words that one might take for a command, and what they are.
+SCRIPTS = {
+    "judge": "  tip: 'fdbrec audit' is the proved judge; bench/judge needs no kit\n",
+    "explore": "  tip: bench/explore makes a page of a run\n",
+    "router": "  tip: tools/router runs nodes as processes\n",
+    "validate": "  tip: docs/schema/validate says where a script is bad\n",
+    "test": "  tip: ./test runs the tests\n",
+}
 # The commands that read a script from standard input.
 SCRIPTED = ("apply", "end", "simulate", "audit")

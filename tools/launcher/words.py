@@ -219,7 +219,9 @@ class Level:
         if names:
             close = similar(word, names)
             if not close:
-                raise self.bad(f"unrecognized subcommand '{word}'")
+                bad = self.bad(f"unrecognized subcommand '{word}'")
+                bad.tip = table.SCRIPTS.get(word, "")
+                raise bad
             said = "a similar subcommand exists" if len(close) == 1 else "some similar subcommands exist"
             tip = ", ".join(f"'{it}'" for it in close)
             raise self.bad(f"unrecognized subcommand '{word}'\n\n  tip: {said}: {tip}")
