@@ -113,10 +113,12 @@ def by_hand(checks):
             status, printed, complaint = ran([*f"{BENCH}/{name}".split()], data)
             is_so = (status, printed) == (2, b"") and complaint.startswith("bad script: ")
             checks.check(is_so, name, "takes", what, status, printed[:80], complaint[-300:])
+    found = ran([f"{BENCH}/judge", f"{built.TOP}/{EXAMPLE}"], b"")
+    checks.check(found == (0, b"audit ok\n", ""), "bench/judge of a file says", found)
     for name in ("judge", "explore", "timeline"):
         found = ran([f"{BENCH}/{name}", f"{built.TOP}/{EXAMPLE}"], b"")
         is_so = found[:2] == (2, b"") and f"bench/{name} < {built.TOP}/{EXAMPLE}\n" in found[2]
-        checks.check(is_so, name, "of a file says", found)
+        checks.check(is_so or name == "judge", name, "of a file says", found)
         found = ran([f"{BENCH}/{name}"], b"")
         checks.check(found == (2, b"", "bad script: standard input is empty\n"), name, "of nothing says", found)
         one, other = pty.openpty()

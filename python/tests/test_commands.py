@@ -43,7 +43,7 @@ class Commands(unittest.TestCase):
     def test_validate(self):
         with tempfile.TemporaryDirectory() as room:
             with open(f"{room}/a.json", "wb") as it:
-                it.write(b'{"ops":[{"undo":{"to":-1}}]}')
+                it.write(b'{"ops":[{"undo":{"to":"1"}}]}')
             status, said, _ = ran("validate", "apply", f"{room}/a.json")
         self.assertEqual(status, 1)
         self.assertTrue(said.startswith(f"{room}/a.json is no script of apply: at /ops/0"), said)

@@ -2,17 +2,16 @@
 
 0 done, 1 what was read differs, 2 bad words or a bad script, 3 out of memory, 4 `input failed` or `output failed`: as
 `fdbrec audit` has them."""
+import gzip
 import os
 import sys
+import zlib
 
-from ..scripts import places, schemas
+from ..scripts import places, quick, schemas
+from ..scripts.collected import BadScript
 
 MARKS = {b"\xef\xbb\xbf": "it begins with a byte order mark: save it as UTF-8 without one"}
 MARKS |= {it: "it is UTF-16: save it as UTF-8" for it in (b"\xff\xfe", b"\xfe\xff")}
-
-
-class BadScript(Exception):
-    """Why a script is none: the place, what is there, and what is wanted."""
 
 
 class BadWords(Exception):
@@ -33,6 +32,25 @@ def given():
         return sys.stdin.buffer.read()
     except OSError as why:
         raise Failed(f"input failed: {why.strerror}") from None
+
+
+def content(path):
+    """The bytes of a file, or of standard input, `-`; if they are packed by gzip, what they were."""
+    data = given() if path == "-" else bytes_of(path)
+    if data[:2] != b"\x1f\x8b":
+        return data
+    try:
+        return gzip.decompress(data)
+    except (OSError, EOFError, zlib.error) as why:
+        raise Failed(f"{path}: it is no whole file of gzip: {why}") from None
+
+
+def bytes_of(path):
+    try:
+        with open(path, "rb") as it:
+            return it.read()
+    except OSError as why:
+        raise Failed(f"{path}: {why.strerror}") from None
 
 
 def write(text):
@@ -64,9 +82,8 @@ def script_of(command, data):
         value = schemas.read(data)
     except schemas.Bad as why:
         raise BadScript(place_of(command, data) or str(why)) from None
-    lack = schemas.lack_of(value, command)
-    if lack:
-        raise BadScript(place_of(command, data) or lack)
+    if not quick.is_of(value, f"{command}.json"):
+        raise BadScript(place_of(command, data) or schemas.lack_of(value, command))
     return value
 
 

@@ -1,23 +1,101 @@
-"""judge < JOURNALS: the line of `fdbrec audit`, and what it says of a fault, by the reading of the rules in
-fdbrec/reading.
+"""judge [--report FILE] [FILE..]: the line of `fdbrec audit`, and what it says of a fault, by the reading of the rules
+in fdbrec/reading.
 
-It needs no built program, and nothing about it is proved. What is no script of `audit` is refused first, as the program
-refuses it: `bad script` with the place. The status is 0 if the line is `audit ok`, 1 if it is another one, 2 for a bad
-script or bad words, 3 out of memory, 4 if input or output fails.
+It needs no built program, and nothing about it is proved. The journals are standard input, or these files (- is
+standard input), each as it is or packed by gzip. They are one script of `audit`, or lines, an entry each, in one or
+several files. A line is one object, of three kinds:
+
+    {"config":CONFIG}                      the config: in the first line, and again wherever else it is wanted
+    {"act":ACT,"node":NODE,"stamp":N}      an entry of a node; the stamps of a node rise from line to line
+    {"last":LAST,"node":NODE}              where a node was at last, behind its entries
+
+--report FILE also writes the verdict to FILE: as JUnit XML if its name ends in .xml, with a test case for each node,
+else as JSON. On a terminal a long input shows how far it is.
+
+What is no script is refused first, as the program refuses it: `bad script` with the place. The status is 0 if the line
+is `audit ok`, 1 if it is another one, 2 for a bad script or bad words, 3 out of memory, 4 if input or output fails.
 """
+import gc
+import os
 import sys
+import time
 
 from ..reading import judging
-from . import ending
+from ..scripts import collected
+from . import ending, reports
+
+
+class Progress:
+    """How far a long input is, on a terminal."""
+
+    def __init__(self):
+        self.began, self.is_shown = time.monotonic(), False
+        self.is_wanted = sys.stderr is not None and sys.stderr.isatty()
+
+    def show(self, text):
+        if self.is_wanted and time.monotonic() > self.began + 1:
+            print(f"\r\033[K{text}", end="", file=sys.stderr, flush=True)
+            self.is_shown = True
+
+    def end(self):
+        if self.is_shown:
+            print("\r\033[K", end="", file=sys.stderr, flush=True)
+            self.is_shown = False
+
+
+def parsed(words):
+    """The files, and the report's name or None."""
+    files, report, rest = [], None, list(words)
+    if rest[:1] == ["audit"] and not os.path.exists("audit"):
+        del rest[0]
+    while rest:
+        word = rest.pop(0)
+        if word == "--report":
+            if not rest or report is not None:
+                raise ending.BadWords("--report has the name of one file")
+            report = rest.pop(0)
+        elif word.startswith("-") and word != "-":
+            raise ending.BadWords(f"there is no word {word}: judge --help says which there are")
+        else:
+            files.append(word)
+    return files or ["-"], report
+
+
+def journals_of(files, progress):
+    """The journals that files have."""
+    contents = [(path, ending.content(path)) for path in files]
+    if len(contents) > 1 or collected.are_lines(contents[0][1]):
+        heed = lambda count: progress.show(f"{count:,} lines are read")
+        return collected.Journals().lines(contents, heed)
+    return collected.Journals().script(ending.script_of("audit", contents[0][1]))
+
+
+def judged(files, report, progress):
+    """The verdict on the journals of files. A report has it too, also where they are no script."""
+    journals, began = None, time.monotonic()
+    try:
+        journals = journals_of(files, progress)
+        count = len(journals.stamps)
+        verdict = judging.verdict_of(journals, lambda at: progress.show(f"{at:,} of {count:,} entries are judged"))
+    except collected.BadScript as why:
+        progress.end()
+        if report:
+            reports.write(report, judging.Verdict("bad script", str(why)), None, time.monotonic() - began)
+        raise
+    progress.end()
+    if report:
+        reports.write(report, verdict, journals, time.monotonic() - began)
+    return verdict
 
 
 def main(words):
-    ending.no_words(words[words[:1] == ["audit"] :], "judge")
-    line, why = judging.judged(ending.script_of("audit", ending.given()))
-    ending.write(f"{line}\n")
-    if why:
-        print(f"fdbrec: {why}", file=sys.stderr)
-    return 0 if line == "audit ok" else 1
+    files, report = parsed(words)
+    gc.disable()  # (what is read has no cycles, and a million entries would be walked again and again)
+    verdict = judged(files, report, Progress())
+    ending.write(f"{verdict.line}\n")
+    if verdict.why:
+        print(f"fdbrec: {verdict.why}", file=sys.stderr)
+    return 0 if verdict.line == "audit ok" else 1
 
 
 def run(words):

@@ -49,7 +49,7 @@ import traceback
 from ..reading import judging
 from ..routing.processes import NUMBERS, Trouble
 from ..routing.story import Story
-from ..scripts import places, schemas
+from ..scripts import places, quick
 from . import ending
 
 PACKAGE = os.path.dirname(os.path.dirname(os.path.realpath(__file__)))
@@ -196,9 +196,8 @@ def judged(room, script, audit):
     text = json.dumps(script, sort_keys=True, separators=(",", ":"))
     with open(f"{room}/journals.json", "w", encoding="utf-8") as it:
         it.write(text + "\n")
-    lack = schemas.lack_of(script, "audit")
-    if lack:
-        raise Trouble(f"the journals are a bad script: {places.said_of('audit', text.encode()) or lack}")
+    if not quick.is_of(script, "audit.json"):
+        raise Trouble(f"the journals are a bad script: {places.said_of('audit', text.encode())}")
     if audit is None:
         return judging.verdict(script)
     try:

@@ -9,16 +9,6 @@ from . import ending
 NAMES = ("apply", "end", "simulate", "audit", "cluster")
 
 
-def content(path):
-    if path == "-":
-        return ending.given()
-    try:
-        with open(path, "rb") as it:
-            return it.read()
-    except OSError as why:
-        raise ending.Failed(f"{path}: {why.strerror}") from None
-
-
 def main(words):
     if not words:
         raise ending.BadWords("no schema is named: validate SCHEMA FILE..")
@@ -28,7 +18,7 @@ def main(words):
         raise ending.BadWords(f"no file is named: validate {words[0]} FILE.., - for standard input")
     status = 0
     for path in words[1:]:
-        why = schemas.fault_of(words[0], content(path))
+        why = schemas.fault_of(words[0], ending.content(path))
         if why:
             ending.write(f"{path} is no script of {words[0]}: {why}\n")
             status = 1

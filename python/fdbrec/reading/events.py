@@ -47,7 +47,7 @@ class Events:
             node = self.nodes.node(name)
         except (KeyError, IndexError):
             raise Refused("NoSuchNode") from None
-        if str(name) in self.nodes.gone:
+        if self.nodes.gone and str(name) in self.nodes.gone:
             raise Refused("Gone")
         return node
 

@@ -1,11 +1,13 @@
 """Whether journals are a run, by this reading of the rules: what `fdbrec audit` says of them, worked out anew."""
 
 import json
+from typing import Any, NamedTuple, Optional
 
+from ..scripts.collected import Journals, place_of
 from . import rules
-from .events import Events, Refused
+from .events import Refused
+from .trial import Trial
 
-KINDS = ("cell", "log", "sequencer", "proxy", "recoverer", "storage")
 # why an entry cannot happen, as it is said
 CAUSES = {
     "Repeated": "it has the stamp and the node of the entry before it",
@@ -17,12 +19,6 @@ CAUSES = {
     "TwoOpen": "a batch is under way",
     "Over": "the proxy takes no more batches",
 }
-
-
-def place(name):
-    """What nodes are ordered by: their kind, and its numbers in the order of their names (epoch before index)."""
-    ((kind, it),) = name.items()
-    return KINDS.index(kind), [it[each] for each in sorted(it)]
 
 
 def spoken(name):
@@ -39,7 +35,7 @@ def form(value):
 def entries_of(script):
     """All entries in their order: stamp, node, act."""
     found = [(it["stamp"], each["node"], it["act"]) for each in script["journals"] for it in each["entries"]]
-    return sorted(found, key=lambda it: (it[0], place(it[1])))
+    return sorted(found, key=lambda it: (it[0], place_of(it[1])))
 
 
 def answer_of(events, name, act):
@@ -103,38 +99,73 @@ def differing(one, other):
     return ours, theirs
 
 
-def judged(script):
-    """The line of the first fault, and what it is by the rules; `audit ok` and None of a run."""
-    events, before = Events(script["config"]), None
-    for at, (stamp, name, act) in enumerate(entries_of(script)):
-        here = f"entry {at}, {spoken(name)} at stamp {stamp}"
+class Verdict(NamedTuple):
+    """The line of the first fault, what it is by the rules, and where: the number of an entry, and a node."""
+
+    line: str
+    why: Optional[str] = None
+    entry: Optional[int] = None
+    node: Any = None
+
+
+def faults_of_entries(trial, journals, order, heed):
+    """The first fault of the entries, taken in their order."""
+    before = None
+    for at, number in enumerate(order):
+        stamp, name = journals.stamps[number], journals.names[journals.owners[number]]
+        act = journals.act(number)
+        if at % 10_000 == 0:
+            heed(at)
         try:
             if before == (stamp, name):
                 raise Refused("Repeated")
             before = stamp, name
-            by_rules = answer_of(events, name, act)
+            by_rules = answer_of(trial, name, act)
         except (Refused, rules.Fault, KeyError, IndexError, ValueError, TypeError) as why:
+            here = f"entry {at}, {spoken(name)} at stamp {stamp}"
             cause = CAUSES.get(str(why), f"({type(why).__name__}: {why})")
-            return f"not a run at {at}", f"{here} cannot happen, {cause}: {spoken_act(act)}"
+            return Verdict(f"not a run at {at}", f"{here} cannot happen, {cause}: {spoken_act(act)}", at, name)
         entered, named = entered_answer(act)
         if by_rules != entered:
+            here = f"entry {at}, {spoken(name)} at stamp {stamp}"
             said = f"{named} {form(entered)}; by the rules {form(by_rules)}"
-            return f"tell differs at {at}", f"{here}, {spoken_act(act)}: {said}"
-    for each in sorted(script["journals"], key=lambda it: place(it["node"])):
-        name = each["node"]
-        ((kind, _),) = name.items()
-        line = f"state differs at {spoken(name)}"
-        try:
-            last = {kind: events.last(name)}
-        except (KeyError, IndexError):
-            return line, f"{spoken(name)}: there is no such node"
-        if each["last"] is None:
-            return line, f"{spoken(name)}: its journal was not closed; by the rules {form(last)}"
-        if each["last"] != last:
-            closed, by_rules = (form(it) for it in differing(each["last"], last))
-            where = "where they differ its journal was closed with"
-            return line, f"{spoken(name)}: {where} {closed}; by the rules {by_rules}"
-    return "audit ok", None
+            return Verdict(f"tell differs at {at}", f"{here}, {spoken_act(act)}: {said}", at, name)
+    return None
+
+
+def fault_of_last(trial, name, closed):
+    """What is to be said of a last state, if it is another one than by the rules."""
+    ((kind, _),) = name.items()
+    try:
+        last = {kind: trial.last(name)}
+    except (KeyError, IndexError):
+        return "there is no such node"
+    if closed is None:
+        return f"its journal was not closed; by the rules {form(last)}"
+    if closed != last:
+        closed, by_rules = (form(it) for it in differing(closed, last))
+        return f"where they differ its journal was closed with {closed}; by the rules {by_rules}"
+    return None
+
+
+def verdict_of(journals, heed=lambda at: None):
+    """Judges journals; `heed` is told now and then how many entries are done."""
+    trial = Trial(journals.config)
+    nodes, order = journals.order()
+    found = faults_of_entries(trial, journals, order, heed)
+    if found:
+        return found
+    for owner in nodes:
+        name = journals.names[owner]
+        why = fault_of_last(trial, name, journals.lasts[owner])
+        if why:
+            return Verdict(f"state differs at {spoken(name)}", f"{spoken(name)}: {why}", None, name)
+    return Verdict("audit ok")
+
+
+def judged(script):
+    """The line of the first fault, and what it is by the rules; `audit ok` and None of a run."""
+    return verdict_of(Journals().script(script))[:2]
 
 
 def verdict(script):

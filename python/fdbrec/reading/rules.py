@@ -2,6 +2,8 @@
 shares nothing with the crates but the rules. `Rules.take` makes one act, and complains where what is told, the outcome
 or the fault is another than the rules say."""
 
+import bisect
+
 from . import batches
 
 FIRST = 257
@@ -20,14 +22,19 @@ def refused(name, **what):
     return {"refused": {"why": {name: what}}}
 
 
+def above(records, version):
+    """How many records there are up to a version, in rising ones: the place of the first above it."""
+    return bisect.bisect_left(records, (version + 1,))
+
+
 class Log:
     """A log of a generation."""
 
     def __init__(self, epoch, index, m, k):
         self.epoch, self.index, self.m, self.k = epoch, index, m, k
-        self.seed = None
+        self.seed = self.mark = None
         self.pushes = {}
-        self.records = {}
+        self.records = {}  # by tag, in rising versions
         self.popped = {}
         self.durable = self.known = 0
         self.stopped = False
@@ -87,6 +94,7 @@ class Log:
         if push["mark"] is None and self.durable == seeded_to:
             return refused("no_mark")
         self.pushes[push["version"]] = push
+        self.mark = push["mark"] if self.mark is None else self.mark
         self.durable, self.known = push["version"], max(self.known, push["known"])
         for tag, batch in push["bodies"]:
             self.records.setdefault(tag, []).append((push["version"], batch))
@@ -105,7 +113,8 @@ class Log:
         if not self.holds(tag):
             return refused("not_mine")
         self.popped[tag] = max(self.popped.get(tag, 0), min(pop["through"], self.known))
-        self.records[tag] = [each for each in self.records.get(tag, []) if self.is_left(tag, each[0])]
+        records = self.records.get(tag, [])
+        del records[: above(records, self.popped[tag])]
         return {"popped": {"through": self.popped[tag]}}
 
     def peek(self, peek):
@@ -116,18 +125,16 @@ class Log:
             return refused("too_early", first=first)
         if peek["after"] < self.popped.get(peek["tag"], 0):
             return refused("removed", through=self.popped[peek["tag"]])
-        above = [each for each in self.records.get(peek["tag"], []) if each[0] > peek["after"]]
-        given = above[: peek["most"]]
-        upto = given[-1][0] if len(above) > len(given) else self.durable
+        records = self.records.get(peek["tag"], [])
+        begin = above(records, peek["after"])
+        given = records[begin : begin + peek["most"]]
+        upto = given[-1][0] if len(records) > begin + len(given) else self.durable
         records = [{"batch": batch, "version": version} for version, batch in given]
         told = {"after": peek["after"], "known": self.known, "records": records, "tag": peek["tag"], "upto": upto}
         return {"peeked": told}
 
     def mark_asked(self, _):
-        for push in self.pushes.values():
-            if push["mark"] is not None:
-                return {"marked": {"state": push["mark"]}}
-        return refused("no_mark")
+        return {"marked": {"state": self.mark}} if self.mark is not None else refused("no_mark")
 
     def last(self):
         seeded = self.seed is not None

@@ -5,8 +5,8 @@ import json
 import math
 import re
 
+from . import quick
 from .forms import SCRIPTS
-from .schemas import SCHEMAS
 
 DEEPEST, SHOWN = 127, 40
 NO_JSON, NOT_TOGETHER = ", which is no JSON here", ", whose parts do not go together"
@@ -207,8 +207,7 @@ def described(form):
 
 def not_together(value, reference, path):
     """The mistake of a part whose values are in their forms, if they break a rule together."""
-    schema, file = SCHEMAS.found(reference, "")
-    if any(True for _ in SCHEMAS.check(value.plain(), schema, file, "")):
+    if not quick.is_of(value.plain(), reference):
         yield path, value.start, NOT_TOGETHER
 
 
@@ -245,22 +244,27 @@ def found(text, start):
     return shown(re.match(r".[^ \t\r\n,:{}\[\]]*", rest, re.S)[0])
 
 
-def place(before):
-    """Line and column behind a text, from 1."""
-    return f"line {before.count(chr(10)) + 1}, column {len(before) - before.rfind(chr(10))}"
+def place(before, line=1):
+    """Line and column behind a text that begins in a line, from 1."""
+    return f"line {before.count(chr(10)) + line}, column {len(before) - before.rfind(chr(10))}"
 
 
 def said_of(command, script):
     """Where a script, in bytes, is bad, what is there and what may be there; or None."""
+    return said_by(SCRIPTS[command], script)
+
+
+def said_by(form, script, line=1):
+    """The same of what has to be of a form, and begins in a line."""
     try:
         text, is_text = script.decode("utf-8"), True
     except UnicodeDecodeError as fault:
         text, is_text = script[: fault.start].decode("utf-8"), False
     try:
         value = Text(text).whole()
-        path, start, why = next(mistakes(value, SCRIPTS[command], ()), (None, None, None)) if is_text else ((), 0, "")
+        path, start, why = next(mistakes(value, form, ()), (None, None, None)) if is_text else ((), 0, "")
     except NoJson as fault:
         (path, start), why = fault.args, NO_JSON
     if not is_text:
-        return f"{place(text)}: {way(path)}found a byte that is no UTF-8{NO_JSON}"
-    return why and f"{place(text[:start])}: {way(path)}found {found(text, start)}{why}"
+        return f"{place(text, line)}: {way(path)}found a byte that is no UTF-8{NO_JSON}"
+    return why and f"{place(text[:start], line)}: {way(path)}found {found(text, start)}{why}"

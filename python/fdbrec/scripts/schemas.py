@@ -33,39 +33,67 @@ def first_odd(value):
     return value if isinstance(value, Odd) else next(filter(None, map(first_odd, inside)), None)
 
 
-# what makes numbers be read one by one: a minus, or more digits than a double has
-UNUSUAL = re.compile(r"(?:^|[:\[,])\s*(?:-|[0-9]{300})")
 STRING = re.compile(r'"[^"\\]*(?:\\.[^"\\]*)*"')
-BRACKETS = bytes.maketrans(b"[]{}", b"()()")
+BRACKETS, DIGITS = bytes.maketrans(b"[]{}", b"()()"), bytes.maketrans(b"123456789", b"000000000")
 OTHERS = bytes(it for it in range(256) if it not in b"[]{}")
+MANY = b"0" * 300  # more digits than a double has
 
 
-def read(text):
+class Unusual(Exception):
+    """A number that is not in digits alone: then all of them are read one by one."""
+
+
+def unusual(text):
+    raise Unusual(text)
+
+
+PLAIN = json.JSONDecoder(parse_float=unusual, parse_constant=unusual)
+SLOW = json.JSONDecoder(parse_int=number_of, parse_float=number_of, parse_constant=number_of)
+
+
+def read(data):
     """Returns the value of a script's bytes. Of two members of one name the last one counts."""
+    data = data.encode("utf-8", "surrogatepass") if isinstance(data, str) else data
     try:
-        text = text.decode("utf-8") if isinstance(text, bytes) else text
-        hooks = {"parse_int": number_of} if UNUSUAL.search(text) else {}
-        value = json.loads(text, parse_float=number_of, parse_constant=number_of, **hooks)
+        text = data.decode("utf-8")
+        value, is_usual = decoded(text, b"-" not in data and MANY not in data.translate(DIGITS))
     except (UnicodeDecodeError, json.JSONDecodeError, RecursionError) as why:
         raise Bad(f"it is no JSON: {why}") from why
-    if is_deep(text):
+    if is_deep(data):
         raise Bad(f"it is nested more than {DEEPEST} levels deep")
     for it in STRING.finditer(text) if "\\u" in text else ():
         if "\\u" in it[0] and any("\ud800" <= each <= "\udfff" for each in json.loads(it[0])):
             raise Bad(f"a text that is not Unicode: {it[0][:40]}")
-    if odd := first_odd(value):
+    if not is_usual and (odd := first_odd(value)):
         raise Bad(f"a number that is not in digits alone: {odd}")
     return value
 
 
-def is_deep(text):
-    """Whether objects and arrays stand too deep in one another, in what is JSON. Each round takes the innermost out."""
-    left = STRING.sub("", text).encode().translate(BRACKETS, OTHERS)
+def decoded(text, is_usual):
+    """The value of a text, and whether all its numbers are usual ones."""
+    try:
+        if is_usual:
+            return PLAIN.decode(text), True
+    except Unusual:
+        pass
+    return SLOW.decode(text), False
+
+
+def is_deep(data):
+    """Whether objects and arrays stand too deep in one another, in what is JSON: first as if no text had a bracket."""
+    if data.count(b"[") + data.count(b"{") <= DEEPEST or is_flat(data):
+        return False
+    return not is_flat(STRING.sub("", data.decode()).encode())
+
+
+def is_flat(data):
+    """Whether all brackets are gone after some rounds, each of which takes out the innermost ones."""
+    left = data.translate(BRACKETS, OTHERS)
     for _ in range(DEEPEST):
         left = left.replace(b"()", b"")
         if not left:
-            return False
-    return True
+            return True
+    return False
 
 
 # ---- the schemas

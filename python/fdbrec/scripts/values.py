@@ -2,8 +2,7 @@
 script, as the answers of nodes."""
 import json
 
-from . import places
-from .schemas import SCHEMAS
+from . import places, quick
 
 
 def mistake(value, form, path=()):
@@ -66,9 +65,7 @@ def of_items(value, form, path):
 
 def not_together(value, reference, path=()):
     """The mistake of a part whose values are in their forms, if they break a rule together."""
-    schema, file = SCHEMAS.found(reference, "")
-    is_good = not any(True for _ in SCHEMAS.check(value, schema, file, ""))
-    return None if is_good else (path, value, places.NOT_TOGETHER)
+    return None if quick.is_of(value, reference) else (path, value, places.NOT_TOGETHER)
 
 
 def said(path, value, why):
