@@ -125,10 +125,9 @@ def main(words):
         name, words = words[1], []
     if words[:1] == ["--name"]:
         raise ending.BadWords(f"one name goes with it: {ending.called('explore')} --name NAME < SCRIPT > RUN.html")
-    try:
-        ending.no_words(words, "explore")
-    except ending.BadWords as why:
-        raise ending.BadWords(f"{why}, and --name NAME") from None
+    if words and not os.path.exists(words[0]):
+        raise ending.BadWords(f"unexpected word {words[0]!r}: explore has --name NAME alone, and reads standard input")
+    ending.no_words(words, "explore")
     ending.write(page_of(journals_of(ending.given()), name))
     return 0
 
