@@ -1,0 +1,5 @@
+module fdbrec/service
+
+go 1.19
+
+require github.com/nats-io/nats.go v1.22.1

@@ -1,0 +1,81 @@
+package main
+
+import (
+	"fmt"
+	"path/filepath"
+	"strconv"
+
+	"fdbrec/service/internal/agent"
+	"fdbrec/service/internal/config"
+	"fdbrec/service/internal/keeper"
+)
+
+func (w *words) machine() (*config.Config, *config.Machine, error) {
+	its, err := w.config()
+	if err != nil {
+		return nil, nil, err
+	}
+	found := its.Machine(w.options["machine"])
+	if found == nil {
+		return nil, nil, bad("--machine: %s has no machine %q", its.Path, w.options["machine"])
+	}
+	return its, found, nil
+}
+
+func initialize(w *words) error {
+	its, machine, err := w.machine()
+	if err != nil {
+		return err
+	}
+	if err := agent.Init(its, machine); err != nil {
+		return &ending{3, err.Error()}
+	}
+	fmt.Printf("%s is made: machine %s of cluster %s\n", machine.Room, machine.Name, its.Cluster)
+	return nil
+}
+
+func runAgent(w *words) error {
+	its, machine, err := w.machine()
+	if err != nil {
+		return err
+	}
+	log, err := w.log(machine.Name)
+	if err != nil {
+		return err
+	}
+	if machine.Room, err = filepath.Abs(machine.Room); err != nil {
+		return err
+	}
+	running, err := agent.New(its, machine, log)
+	if err != nil {
+		return &ending{3, err.Error()}
+	}
+	if err := serveHTTP(machine.HTTP, running.Health, running.Metrics); err != nil {
+		return &ending{3, err.Error()}
+	}
+	return running.Run(stopped())
+}
+
+func runKeeper(w *words) error {
+	its, err := w.config()
+	if err != nil {
+		return err
+	}
+	number, _ := strconv.ParseUint(w.options["number"], 10, 8)
+	found := its.Keeper(number)
+	if found == nil {
+		return bad("--number: %s has no keeper %q", its.Path, w.options["number"])
+	}
+	log, err := w.log(fmt.Sprintf("keeper-%d", number))
+	if err != nil {
+		return err
+	}
+	running, err := keeper.New(its, found, log)
+	if err != nil {
+		return &ending{3, err.Error()}
+	}
+	if err := serveHTTP(found.HTTP, running.Health, running.Metrics); err != nil {
+		return &ending{3, err.Error()}
+	}
+	return running.Run(stopped())
+}
