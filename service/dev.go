@@ -160,14 +160,18 @@ func nodeProgram(given string) ([]string, error) {
 		return nil, err
 	}
 	top := filepath.Dir(filepath.Dir(self))
-	for _, each := range []struct {
-		path  string
-		words []string
-	}{{"crates/fdbrec_node/out/fdbrec_node", []string{"node"}}, {"examples/foreign/node", nil}} {
-		path := filepath.Join(top, each.path)
-		if info, err := os.Stat(path); err == nil && info.Mode()&0o111 != 0 {
-			return append([]string{path}, each.words...), nil
+	for _, each := range [][]string{{"crates/fdbrec_node/out/fdbrec_node", "node"}, {"examples/foreign/node"}} {
+		path := filepath.Join(top, each[0])
+		if info, err := os.Stat(path); err != nil || info.Mode()&0o111 == 0 {
+			continue
 		}
+		if len(each) > 1 {
+			return []string{path, each[1]}, nil
+		}
+		if _, err := os.Stat("/usr/bin/python3"); err == nil {
+			return []string{"/usr/bin/python3", path}, nil // (which may start faster than what env finds)
+		}
+		return []string{path}, nil
 	}
 	return nil, bad("no program of nodes is found: --node \"PROGRAM WORDS\"")
 }

@@ -53,6 +53,7 @@ type Config struct {
 	Progress time.Duration
 	Again    time.Duration
 	Recovery time.Duration
+	Start    time.Duration
 	Patience time.Duration
 
 	JournalKeep   bool
@@ -81,7 +82,7 @@ func Parse(path, text string) (*Config, error) {
 	it := &Config{
 		Path: path, Programs: map[string][]string{}, MaxPayload: 64 << 20,
 		Alive: 100 * time.Millisecond, Suspect: time.Second, Progress: 2 * time.Second, Again: 50 * time.Millisecond,
-		Recovery: 10 * time.Second, Patience: 60 * time.Second, JournalKeep: true, JournalRotate: 64 << 20,
+		Recovery: 10 * time.Second, Start: 10 * time.Second, Patience: 60 * time.Second, JournalKeep: true, JournalRotate: 64 << 20,
 	}
 	for _, table := range tables {
 		if err := it.take(table); err != nil {

@@ -160,6 +160,7 @@ func (c *Config) timeFields() []field {
 		{"progress", length, false, duration(&c.Progress)},
 		{"again", length, false, duration(&c.Again)},
 		{"recovery", length, false, duration(&c.Recovery)},
+		{"start", length, false, duration(&c.Start)},
 		{"patience", length, false, duration(&c.Patience)},
 	}
 }

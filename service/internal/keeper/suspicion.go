@@ -70,20 +70,16 @@ func (k *Keeper) suspect(now time.Time) string {
 // suspectNode says why a node cannot be relied on: it is gone, or was not well for as long as is borne.
 func (k *Keeper) suspectNode(name names.Node, now time.Time) string {
 	token := name.Token()
-	why, isFinal := k.fault(name, now)
+	why, borne := k.fault(name, now)
 	if why == "" {
 		delete(k.since, token)
 		return ""
 	}
-	if isFinal {
-		return name.Spoken() + " " + why
-	}
 	since, is := k.since[token]
 	if !is {
+		since = now
 		k.since[token] = now
-		return ""
 	}
-	borne := k.config.Suspect
 	if k.newest.Epoch == agent.First && !k.wasWell {
 		borne *= 10 // (the cluster is being started)
 	}
@@ -93,36 +89,38 @@ func (k *Keeper) suspectNode(name names.Node, now time.Time) string {
 	return name.Spoken() + " " + why
 }
 
-// fault says what is wrong with a node by what its machine says, and whether that is for good.
-func (k *Keeper) fault(name names.Node, now time.Time) (why string, isFinal bool) {
+// fault says what is wrong with a node by what its machine says, and for how long that is borne.
+func (k *Keeper) fault(name names.Node, now time.Time) (why string, borne time.Duration) {
 	its, heard := k.viewOf(name)
 	if its == nil {
-		return "is on no machine that is heard of", false
+		return "is on no machine that is heard of", k.config.Suspect
 	}
 	if heard.Before(k.calm) {
 		heard = k.calm
 	}
 	if now.Sub(heard) > k.config.Suspect {
-		return "is on a machine that is silent", true
+		return "is on a machine that is silent", 0
 	}
 	switch its.State {
 	case "gone", "ended":
-		return "is " + its.State, true
+		return "is " + its.State, 0
+	case "starting":
+		return "is starting", k.config.Start
 	case "up":
 	default:
-		return "is " + its.State + ": " + its.Why, false
+		return "is " + its.State + ": " + its.Why, k.config.Suspect
 	}
 	if its.Full {
-		return "has a file that is full", true
+		return "has a file that is full", 0
 	}
 	if time.Duration(its.Waiting)*time.Millisecond > k.config.Suspect {
-		return "does not answer", false
+		return "does not answer", k.config.Suspect / 2
 	}
-	return k.faultOfBatch(name, its, now)
+	return k.faultOfBatch(name, its, now), 0
 }
 
 // faultOfBatch sees whether a proxy's batch is open for longer than is borne, by this keeper's own clock.
-func (k *Keeper) faultOfBatch(name names.Node, its *wire.NodeView, now time.Time) (string, bool) {
+func (k *Keeper) faultOfBatch(name names.Node, its *wire.NodeView, now time.Time) string {
 	token := name.Token()
 	was := k.open[token]
 	switch {
@@ -131,9 +129,9 @@ func (k *Keeper) faultOfBatch(name names.Node, its *wire.NodeView, now time.Time
 	case was.number != its.Open:
 		k.open[token] = openBatch{its.Open, now}
 	case now.Sub(was.since) > k.config.Progress:
-		return fmt.Sprintf("has had a batch open for %v", k.config.Progress), true
+		return fmt.Sprintf("has had a batch open for %v", k.config.Progress)
 	}
-	return "", false
+	return ""
 }
 
 // viewOf is what was said last of a node, and when.
