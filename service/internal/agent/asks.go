@@ -6,12 +6,16 @@ import (
 	"time"
 
 	"fdbrec/service/internal/names"
-	"fdbrec/service/internal/wire"
 )
 
 // asks are what a proxy or a recoverer wants to be told. Each leaves at once, and again after a while that doubles.
+//
+// That an ask leaves once for each time that it is due, and not for each answer that still names it, is what keeps a
+// cluster alive: a chosen recoverer names its marks for ever, one to each log, and hears an answer to each. If each
+// answer sent them all again, one message would become m, and soon nothing else would come through.
 type asks struct {
-	node  *node
+	pause time.Duration
+	send  func(*wanted)
 	mutex sync.Mutex
 	its   map[string]*wanted
 	held  map[string]bool // marks of a chosen recoverer that their logs hold
@@ -38,7 +42,7 @@ func (a *asks) want(list [][2]json.RawMessage) {
 		}
 		old := a.its[key]
 		if old == nil {
-			old = &wanted{ask: each[1], pause: a.node.agent.config.Again}
+			old = &wanted{ask: each[1], pause: a.pause}
 			if err := json.Unmarshal(each[0], &old.to); err != nil {
 				continue
 			}
@@ -52,10 +56,6 @@ func (a *asks) want(list [][2]json.RawMessage) {
 	for _, each := range fresh {
 		a.send(each)
 	}
-}
-
-func (a *asks) send(each *wanted) {
-	a.node.agent.send(each.to, &wire.Message{Type: "ask", From: a.node.name, Ask: each.ask})
 }
 
 // again sends what is due.
@@ -77,11 +77,10 @@ func (a *asks) again(now time.Time) {
 	}
 }
 
-// heard forgets the mark for a log that holds it: a chosen recoverer goes on naming it.
-func (a *asks) heard(from names.Node, tell json.RawMessage) {
+// isHeld forgets the mark for a log that holds it: a chosen recoverer goes on naming it.
+func (a *asks) isHeld(from names.Node, tell json.RawMessage) {
 	var told map[string]json.RawMessage
-	_, isChosen := chosen(a.node.phase())
-	if json.Unmarshal(tell, &told) != nil || told["held"] == nil || !isChosen {
+	if json.Unmarshal(tell, &told) != nil || told["held"] == nil {
 		return
 	}
 	a.mutex.Lock()

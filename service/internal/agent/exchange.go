@@ -285,7 +285,9 @@ func (n *node) heard(entry *act) {
 	case "storage":
 		n.storage.heard(its.From, its.Tell["log"])
 	case "recoverer":
-		n.asks.heard(its.From, its.Tell["log"])
+		if _, is := chosen(n.phase()); is {
+			n.asks.isHeld(its.From, its.Tell["log"])
+		}
 	}
 }
 

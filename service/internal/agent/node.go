@@ -58,7 +58,9 @@ type node struct {
 func (a *Agent) newNode(order wire.Order, made bool) *node {
 	n := &node{agent: a, name: order.Node, order: order, made: made, wake: make(chan struct{}, 1),
 		stop: make(chan struct{}), ending: make(chan struct{}), queued: map[string]bool{}, state: "starting", since: time.Now()}
-	n.asks.node, n.proxy.node, n.storage.node = n, n, n
+	n.proxy.node, n.storage.node = n, n
+	n.asks.pause = a.config.Again
+	n.asks.send = func(each *wanted) { a.send(each.to, &wire.Message{Type: "ask", From: n.name, Ask: each.ask}) }
 	return n
 }
 
