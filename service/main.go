@@ -28,6 +28,7 @@ const usage = `fdbrec-service COMMAND --config FILE ..
   watch KEY                       print each value that a key comes to have and keeps
   bench --seconds N --clients K [--acks FILE]    put keys of their own; --acks writes down each one that was acknowledged
   check --acks FILE               read what such a file has; status 1 if one is missing
+  nkeys                           make the nkeys that FILE names, and print what brokers are told of them
   journals ROOM..                 print the journals of these folders as one script of an audit
   dev FOLDER [--machines N]       run broker, agents and keepers of a cluster of its own on this machine, in FOLDER
   dev FOLDER --write              only write FOLDER/service.toml and FOLDER/broker.conf
@@ -50,7 +51,7 @@ func bad(why string, words ...interface{}) error { return &ending{2, fmt.Sprintf
 var commands = map[string]func(*words) error{
 	"init": initialize, "agent": runAgent, "keeper": runKeeper, "status": status, "recover": recoverNow, "put": put,
 	"clear": clearKeys, "add": add, "get": get, "watch": watch, "bench": bench, "check": check, "journals": journals,
-	"dev": dev,
+	"dev": dev, "nkeys": makeKeys,
 }
 
 func main() {

@@ -1,5 +1,5 @@
-"""What tests/service looks at apart from its seeds: configurations, folders, strange messages, other clusters, deadlines,
-pages for machines."""
+"""What tests/service looks at apart from its seeds: configurations, folders, strange messages, other clusters,
+deadlines, pages for machines."""
 
 import json
 import os
@@ -25,6 +25,7 @@ REFUSED = (
     ("coordinators = 3", "coordinators = 2", ":3: coordinators: found 2, wanted 1, 3, 5, 7 or 9"),
     ("[nats]", "[nat]", ":9: there is no table [nat]"),
 )
+AGENT, KEEPER = ("agent", "--machine", "m0"), ("keeper", "--number", "1")
 
 
 class Raw:
@@ -68,7 +69,7 @@ def configurations(checks, room):
         checks.check(old in good, "the row of", old, "changes nothing")
         with open(path, "w", encoding="utf-8") as it:
             it.write(good.replace(old, new, 1))
-        for words in (("agent", "--machine", "m0"), ("keeper", "--number", "1"), ("init", "--machine", "m0"), ("status",)):
+        for words in (AGENT, KEEPER, ("init", "--machine", "m0"), ("status",)):
             ran = said(*words, "--config", path)
             is_so = ran.returncode == 2 and ran.stderr.startswith(path + wanted) and ran.stderr.count("\n") == 1
             checks.check(is_so and not ran.stdout, words, new, ran.returncode, ran.stdout, ran.stderr)
@@ -117,6 +118,7 @@ def running(checks, room):
         values(checks, cluster)
         pages(checks, port)
         in_use(checks, cluster)
+        early(checks, cluster)
         lost_file(checks, cluster)
         cluster.stop()
         line, why, _ = cluster.audit()
@@ -133,7 +135,8 @@ def strange(checks, cluster):
     message = {"type": "ask", "at": 1, "newest": 257, "from": {"recoverer": {"ballot": 99999}}, "ask": lock}
     far = message | {"at": 2**39 * 2 - 1}
     by_proxy = message | {"from": {"cell": {"index": 0}}}
-    forged = message | {"from": {"storage": {"tag": 0}}, "ask": {"log": {"pop": {"epoch": 257, "tag": 0, "through": 0}}}}
+    pop = {"log": {"pop": {"epoch": 257, "tag": 0, "through": 0}}}
+    forged = message | {"from": {"storage": {"tag": 0}}, "ask": pop}
     texts = [b"", b"{", b"[]", b'"x"', b"\xff\xfe", b"[" * 100000, b"1" * 1000, b"null"]
     texts += [json.dumps(it).encode() for it in (far, by_proxy, forged, message | {"type": "submit"})]
     before = counts(cluster)
@@ -209,9 +212,29 @@ def fetch(port, page):
 
 def in_use(checks, cluster):
     """A second agent, and a second keeper, over the same folder."""
-    for words in (("agent", "--machine", "m0"), ("keeper", "--number", "1")):
+    for words in (AGENT, KEEPER):
         ran = cluster.run(*words)
         checks.check(ran.returncode == 3 and "is in use by another" in ran.stderr, words, ran.returncode, ran.stderr)
+
+
+def early(checks, cluster):
+    """Nodes that are started before anybody rests on them, as those of a recovery that comes to nothing, are killed
+    with their agent: they are nobody's, and enter no crash. (The audit at the end would name them.)"""
+    raw, epoch = Raw(raw_port(cluster)), 390 * 256 + 9
+    for node in ({"log": {"epoch": epoch, "index": 0}}, {"sequencer": {"epoch": epoch}}):
+        order = {"do": "start", "node": node, "logs": 4, "degree": 2, "last": 9, "known": 7, "at": 1}
+        raw.say("fdbrec.dev.agent.m2.keeper-9", json.dumps(order).encode())
+    raw.close()
+    is_up = lambda: [name for name in cluster.node_pids() if f"m2 log --epoch {epoch}" in name]
+    for _ in range(2):
+        ends = time.monotonic() + 30
+        while not is_up() and time.monotonic() < ends:
+            time.sleep(0.2)
+        checks.check(is_up(), "the log that was ordered runs")
+        time.sleep(1)
+        cluster.kill("m2")
+        cluster.start("m2")
+    checks.check(cluster.comes(60) is not None, "it goes on after two kills of m2:", cluster.last.stderr)
 
 
 def lost_file(checks, cluster):

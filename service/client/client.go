@@ -235,6 +235,8 @@ func (c *Client) try(ctx context.Context, epoch uint64, key, number string, its 
 			return Version{}, false, errors.New(told.Refused)
 		case err == nil && told.Refused != "" && !isSent:
 			return Version{}, true, pause(ctx, nil)
+		case err == nil && told.Ended:
+			return c.ended(ctx, epoch, &told, key, number)
 		case err == nil:
 			return c.settle(ctx, epoch, key, number)
 		case isNobody(err) && !isSent:
@@ -281,6 +283,24 @@ func pause(ctx context.Context, err error) error {
 }
 
 var errAgain = errors.New("it was not committed in this epoch")
+
+// ended finds out what became of a put whose epoch ended, by its version: the next epoch took over all versions through
+// one, and no others.
+func (c *Client) ended(ctx context.Context, epoch uint64, told *wire.Submitted, key, number string) (Version, bool, error) {
+	if _, err := c.epoch(ctx, epoch); err != nil {
+		return Version{}, false, fmt.Errorf("%w: the epoch did not end in time", ErrUnknown)
+	}
+	c.mutex.Lock()
+	next, is := c.newest.After(epoch)
+	c.mutex.Unlock()
+	switch {
+	case !is:
+		return c.settle(ctx, epoch, key, number)
+	case told.Version != 0 && told.Version <= next.SeededTo:
+		return Version{epoch, told.Version}, false, nil
+	}
+	return Version{}, true, errAgain
+}
 
 // settle finds out what became of a put whose answer was lost. Once the storage server is in a later epoch, what it does
 // not show there was not committed, and never will be.

@@ -279,6 +279,7 @@ func (n *node) heard(entry *act) {
 	its := entry.Act.Heard
 	switch n.name.Kind {
 	case "proxy":
+		n.proxy.numbered(its.Tell["seq"])
 		for name, each := range its.Outcome {
 			n.proxy.outcome(name, each.Version)
 		}

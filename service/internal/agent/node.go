@@ -220,13 +220,19 @@ func (n *node) greet() error {
 			return err
 		}
 		return n.keep(&item{}, begun, nil)
-	case n.name.HasFiles() && n.made:
+	case n.name.HasFiles() && n.made && !n.isUntouched():
 		return n.back()
 	}
 	if !n.journal.Tail.IsThere {
 		return n.write(journal.Record{Last: n.last})
 	}
 	return nil
+}
+
+// isUntouched says whether the node was never given a line that enters something. It then starts as at first: a log that
+// was started before its recoverer seeds it is nobody's yet, and has no crash to enter.
+func (n *node) isUntouched() bool {
+	return n.agent.journals.Keep && n.journal.Tail.Stamp == 0 && len(n.journal.Tail.Open) == 0
 }
 
 // back settles what a kill left open.

@@ -18,6 +18,8 @@ type proxy struct {
 	number  uint64 // of the open batch; 0 if none is
 	count   uint64
 	since   time.Time
+	request uint64 // the node's own number of the batch that it took last
+	version uint64 // that the open batch was given; 0 before
 	ended   bool
 	moved   time.Time // when a batch was last committed
 	settled bool      // whether an empty batch was since, so that the logs know of it
@@ -145,11 +147,15 @@ func (p *proxy) begin() {
 
 // submitted hears what the node said to a batch: if it refused it, nothing was done.
 func (p *proxy) submitted(number uint64, its *answer) {
-	if its == nil || its.Type != "error" {
+	if its == nil {
 		return
 	}
 	p.mutex.Lock()
 	defer p.mutex.Unlock()
+	if its.Type != "error" {
+		p.request++
+		return
+	}
 	if p.number != number {
 		return
 	}
@@ -166,7 +172,25 @@ func (p *proxy) close(say func(*submission) wire.Submitted) {
 		its.Epoch, its.At = p.node.name.First, p.node.agent.bus.Clock.Now()
 		one.reply(its)
 	}
-	p.open, p.number = nil, 0
+	p.open, p.number, p.version = nil, 0, 0
+}
+
+// numbered hears that the open batch was given a version.
+func (p *proxy) numbered(tell json.RawMessage) {
+	var told struct {
+		Numbered *struct {
+			Request uint64 `json:"request"`
+			Version uint64 `json:"version"`
+		} `json:"numbered"`
+	}
+	if json.Unmarshal(tell, &told) != nil || told.Numbered == nil {
+		return
+	}
+	p.mutex.Lock()
+	defer p.mutex.Unlock()
+	if p.number != 0 && told.Numbered.Request == p.request {
+		p.version = told.Numbered.Version
+	}
 }
 
 // outcome hears what the node says of its batch.
@@ -176,6 +200,9 @@ func (p *proxy) outcome(name string, version uint64) {
 	}
 	epoch := p.node.name.First
 	p.mutex.Lock()
+	if name == "ended" {
+		version = p.version
+	}
 	p.close(func(*submission) wire.Submitted {
 		return wire.Submitted{Committed: name == "committed", Ended: name == "ended", Version: version}
 	})
@@ -204,12 +231,13 @@ func (p *proxy) refuse() {
 	p.waiting = nil
 }
 
-// gone answers all: of what is open nothing is known.
+// gone answers all: a recovery decides of what is open.
 func (p *proxy) gone() {
 	p.mutex.Lock()
 	defer p.mutex.Unlock()
 	p.ended = true
-	p.close(func(*submission) wire.Submitted { return wire.Submitted{Ended: true} })
+	version := p.version
+	p.close(func(*submission) wire.Submitted { return wire.Submitted{Ended: true, Version: version} })
 	p.refuse()
 }
 

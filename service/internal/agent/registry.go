@@ -170,9 +170,10 @@ func (a *Agent) note(order wire.Order, state string) error {
 	return writeJSON(filepath.Join(a.room, "nodes", order.Node.Token()+".json"), record{order, state})
 }
 
-// closeJournal enters that a node without files is gone, if it was ever there.
+// closeJournal enters that a node without files is gone. One that did nothing has no journal: a sequencer that was
+// started before its epoch was chosen may be nobody's.
 func (a *Agent) closeJournal(name names.Node, its *journal.Journal) {
-	if !its.Tail.IsThere || its.Tail.Ended || name.Kind == "recoverer" && its.Tail.Stamp == 0 {
+	if !its.Tail.IsThere || its.Tail.Ended || its.Tail.Stamp == 0 {
 		return
 	}
 	stamp := a.bus.Clock.Now()

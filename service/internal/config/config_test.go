@@ -62,6 +62,14 @@ func TestGood(t *testing.T) {
 	}
 }
 
+// The example of service/units is one that is read.
+func TestExample(t *testing.T) {
+	its, err := Read("../../units/service.toml")
+	if err != nil || len(its.Machines) != 5 || len(its.Keepers) != 2 || its.Suspect != time.Second {
+		t.Errorf("%+v %v", its, err)
+	}
+}
+
 // Each row changes one text of the good file; its refusal begins with a line of the file, and has a word.
 func TestRefusals(t *testing.T) {
 	rows := []struct{ old, new, wanted string }{

@@ -115,6 +115,16 @@ func (e *Epoch) Last() Generation {
 	return e.State.Gens[len(e.State.Gens)-1]
 }
 
+// After is the generation that followed another one, as far as the state has both.
+func (e *Epoch) After(epoch uint64) (Generation, bool) {
+	for at, gen := range e.State.Gens {
+		if gen.Epoch == epoch && at+1 < len(e.State.Gens) {
+			return e.State.Gens[at+1], true
+		}
+	}
+	return Generation{}, false
+}
+
 // Names says whether the epoch's state has a generation of this epoch.
 func (e *Epoch) Names(epoch uint64) bool {
 	for _, gen := range e.State.Gens {
@@ -203,7 +213,8 @@ type Submit struct {
 	At        uint64            `json:"at"`
 }
 
-// Submitted is the answer: Committed, Ended (nothing is known of it) or Refused (nothing was done).
+// Submitted is the answer: Committed, Ended (a recovery decides, by Version) or Refused (nothing was done). The version
+// of a batch that ended is the one that it was given, or 0: then it was pushed to no log.
 type Submitted struct {
 	Committed bool   `json:"committed,omitempty"`
 	Ended     bool   `json:"ended,omitempty"`
