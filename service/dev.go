@@ -14,6 +14,7 @@ import (
 
 	"fdbrec/service/internal/agent"
 	"fdbrec/service/internal/config"
+	"fdbrec/service/internal/keeper"
 )
 
 // dev runs a cluster on one machine: a broker, agents and two keepers, each a process that is started again if it ends.
@@ -59,9 +60,14 @@ func runDev(folder, path string, its *config.Config) error {
 		}
 		commands[machine.Name] = []string{self, "agent", "--config", path, "--machine", machine.Name}
 	}
-	for _, keeper := range its.Keepers {
-		name := fmt.Sprintf("keeper-%d", keeper.Number)
-		commands[name] = []string{self, "keeper", "--config", path, "--number", fmt.Sprint(keeper.Number)}
+	for _, each := range its.Keepers {
+		if _, err := os.Stat(filepath.Join(each.Room, "keeper.json")); err != nil {
+			if err := keeper.Init(its, each); err != nil {
+				return &ending{3, err.Error()}
+			}
+		}
+		name := fmt.Sprintf("keeper-%d", each.Number)
+		commands[name] = []string{self, "keeper", "--config", path, "--number", fmt.Sprint(each.Number)}
 	}
 	stop := stopped()
 	var all sync.WaitGroup

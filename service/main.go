@@ -16,6 +16,7 @@ import (
 const usage = `fdbrec-service COMMAND --config FILE ..
 
   init --machine NAME             make the folder of a machine, once
+  init --number N                 make the folder of a keeper, once
   agent --machine NAME            run the nodes of a machine
   keeper --number N               watch the cluster, and begin recoveries
   status [--json]                 print how the cluster is

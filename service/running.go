@@ -23,6 +23,9 @@ func (w *words) machine() (*config.Config, *config.Machine, error) {
 }
 
 func initialize(w *words) error {
+	if w.options["number"] != "" {
+		return initializeKeeper(w)
+	}
 	its, machine, err := w.machine()
 	if err != nil {
 		return err
@@ -56,17 +59,37 @@ func runAgent(w *words) error {
 	return running.Run(stopped())
 }
 
-func runKeeper(w *words) error {
+func (w *words) keeper() (*config.Config, *config.Keeper, error) {
 	its, err := w.config()
 	if err != nil {
-		return err
+		return nil, nil, err
 	}
 	number, _ := strconv.ParseUint(w.options["number"], 10, 8)
 	found := its.Keeper(number)
 	if found == nil {
-		return bad("--number: %s has no keeper %q", its.Path, w.options["number"])
+		return nil, nil, bad("--number: %s has no keeper %q", its.Path, w.options["number"])
 	}
-	log, err := w.log(fmt.Sprintf("keeper-%d", number))
+	return its, found, nil
+}
+
+func initializeKeeper(w *words) error {
+	its, found, err := w.keeper()
+	if err != nil {
+		return err
+	}
+	if err := keeper.Init(its, found); err != nil {
+		return &ending{3, err.Error()}
+	}
+	fmt.Printf("%s is made: keeper %d of cluster %s\n", found.Room, found.Number, its.Cluster)
+	return nil
+}
+
+func runKeeper(w *words) error {
+	its, found, err := w.keeper()
+	if err != nil {
+		return err
+	}
+	log, err := w.log(fmt.Sprintf("keeper-%d", found.Number))
 	if err != nil {
 		return err
 	}

@@ -68,6 +68,7 @@ class Cluster:
             self.run("init", "--machine", f"m{at}")
             self.words[f"m{at}"] = [SERVICE, "agent", "--config", self.config, "--machine", f"m{at}"]
         for at in (1, 2):
+            self.run("init", "--number", str(at))
             self.words[f"keeper-{at}"] = [SERVICE, "keeper", "--config", self.config, "--number", str(at)]
 
     def write(self, brokers, times):

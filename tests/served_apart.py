@@ -81,7 +81,10 @@ def configurations(checks, room):
                           (("keeper", "--number", "7", "--config", path), 2), (("get", "a", "--config", "/no/file"), 2),
                           (("init", "--machine", "m0", "--config", path), 0),
                           (("init", "--machine", "m0", "--config", path), 3),
-                          (("agent", "--machine", "m1", "--config", path), 3), (("journals", f"{room}/m1"), 1),
+                          (("agent", "--machine", "m1", "--config", path), 3),
+                          (("keeper", "--number", "1", "--config", path), 3),
+                          (("init", "--number", "1", "--config", path), 0),
+                          (("init", "--number", "1", "--config", path), 3), (("journals", f"{room}/m1"), 1),
                           (("bench", "--seconds", "1", "--clients", "0", "--config", path), 2)):
         ran = said(*words, env={key: its for key, its in os.environ.items() if key != "FDBREC_CONFIG"})
         is_so = ran.returncode == status and "panic" not in ran.stderr and (ran.stderr or status == 0)

@@ -64,7 +64,19 @@ type state struct {
 	Round   uint64 `json:"round"`
 }
 
-// New makes a keeper, and its folder if there is none.
+// Init makes the folder of a keeper. One that is there is refused: the rounds that were used must not be forgotten.
+func Init(c *config.Config, its *config.Keeper) error {
+	path := filepath.Join(its.Room, "keeper.json")
+	if _, err := os.Stat(path); err == nil {
+		return fmt.Errorf("%s is there already: this keeper was made before", path)
+	}
+	if err := os.MkdirAll(its.Room, 0o755); err != nil {
+		return err
+	}
+	return (&Keeper{config: c, its: its}).keep(1) // (round 1 opened the epoch with which all begins)
+}
+
+// New makes a keeper, in its folder, which must have been made.
 func New(c *config.Config, its *config.Keeper, log *report.Log) (*Keeper, error) {
 	now := time.Now()
 	k := &Keeper{config: c, its: its, log: log, born: now, calm: now, machines: map[string]*machine{},
@@ -78,26 +90,22 @@ func New(c *config.Config, its *config.Keeper, log *report.Log) (*Keeper, error)
 }
 
 func (k *Keeper) enter() error {
-	if err := os.MkdirAll(k.its.Room, 0o755); err != nil {
+	text, err := os.ReadFile(filepath.Join(k.its.Room, "keeper.json"))
+	if os.IsNotExist(err) {
+		return fmt.Errorf("%s has no keeper.json: `fdbrec-service init --number %d` makes it, once; a keeper whose folder "+
+			"is lost comes back under another number", k.its.Room, k.its.Number)
+	}
+	if err != nil {
 		return err
 	}
-	var err error
 	if k.lock, err = os.OpenFile(filepath.Join(k.its.Room, "lock"), os.O_RDWR|os.O_CREATE, 0o644); err != nil {
 		return err
 	}
 	if syscall.Flock(int(k.lock.Fd()), syscall.LOCK_EX|syscall.LOCK_NB) != nil {
 		return fmt.Errorf("%s is in use by another keeper", k.its.Room)
 	}
-	text, err := os.ReadFile(filepath.Join(k.its.Room, "keeper.json"))
-	if os.IsNotExist(err) {
-		k.round = 1 // (round 1 opened the epoch with which all begins)
-		return k.keep(1)
-	}
 	var was state
-	if err == nil {
-		err = json.Unmarshal(text, &was)
-	}
-	if err != nil {
+	if err := json.Unmarshal(text, &was); err != nil {
 		return fmt.Errorf("%s/keeper.json: %v", k.its.Room, err)
 	}
 	if was.Cluster != k.config.Cluster || was.Number != k.its.Number {

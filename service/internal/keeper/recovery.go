@@ -101,6 +101,9 @@ func (k *Keeper) follow(now time.Time) {
 	case view.State == "gone" || view.State == "ended":
 		k.log.Warn("recovery", "ballot", its.ballot, "given_up", "its recoverer is "+view.State, "why", view.Why)
 		k.giveUp(now, time.Duration(rand.Int63n(int64(k.config.Alive))))
+	case k.hasLost(its, now) != "":
+		k.log.Warn("recovery", "ballot", its.ballot, "given_up", k.hasLost(its, now)+", where one of its logs is, is silent")
+		k.giveUp(now, 0)
 	case now.Sub(heard) > 2*k.config.Suspect:
 		k.log.Warn("recovery", "ballot", its.ballot, "given_up", "its recoverer's machine is silent")
 		k.giveUp(now, 0)
@@ -113,6 +116,20 @@ func (k *Keeper) follow(now time.Time) {
 		its.isOpened = true
 		k.openEpoch(its, view.Recovery)
 	}
+}
+
+// hasLost is a machine with a log of a recovery that fell silent: the recoverer would wait for it in vain.
+func (k *Keeper) hasLost(its *recovery, now time.Time) string {
+	for _, name := range its.machines[:its.logs] {
+		heard := k.calm
+		if each := k.machines[name]; each != nil && each.heard.After(heard) {
+			heard = each.heard
+		}
+		if now.Sub(heard) > k.config.Suspect {
+			return name
+		}
+	}
+	return ""
 }
 
 func phaseOf(view *wire.NodeView) string {
