@@ -194,7 +194,7 @@ func devConfig(folder string, node []string, count, port int) string {
 	}
 	fmt.Fprintf(&made, "cluster = \"dev\"\nnode = [%s]\ncoordinators = 3\nlogs = %d\ndegree = 2\nproxies = 2\n", strings.Join(words, ", "), logs)
 	fmt.Fprintf(&made, "shards = [\"\", \"6d\"]\n\n[nats]\nurls = [\"nats://127.0.0.1:%d\"]\n", port)
-	fmt.Fprintf(&made, "\n[time]\nalive = \"100ms\"\nsuspect = \"700ms\"\n")
+	fmt.Fprintf(&made, "\n[time]\nalive = \"100ms\"\nsuspect = \"700ms\"\n\n[journal]\nfsync = false\n")
 	for at := 0; at < count; at++ {
 		fmt.Fprintf(&made, "\n[[machine]]\nname = \"m%d\"\nroom = %q\n", at, filepath.Join(folder, fmt.Sprintf("m%d", at)))
 		if at < 3 {

@@ -57,12 +57,12 @@ def free_port():
 class Cluster:
     """Brokers, agents and keepers, each a process of its own, by names as `broker-0`, `m3`, `keeper-1`."""
 
-    def __init__(self, room, brokers=1, machines=5, times=None):
+    def __init__(self, room, brokers=1, machines=5, values=None):
         self.room, self.its, self.logs = room, {}, f"{room}/logs"
         self.config = f"{room}/service.toml"
         words = ["dev", room, "--write", "--machines", str(machines), "--node", node_words()]
         self.run(*words)
-        self.write(brokers, times or {})
+        self.write(brokers, values or {})
         self.words = {f"broker-{at}": ["nats-server", "-c", f"{room}/broker-{at}.conf"] for at in range(brokers)}
         for at in range(machines):
             self.run("init", "--machine", f"m{at}")
@@ -71,8 +71,8 @@ class Cluster:
             self.run("init", "--number", str(at))
             self.words[f"keeper-{at}"] = [SERVICE, "keeper", "--config", self.config, "--number", str(at)]
 
-    def write(self, brokers, times):
-        """Brokers that know one another, and their addresses in the configuration."""
+    def write(self, brokers, values):
+        """Brokers that know one another, and their addresses in the configuration, with other values of its keys."""
         ports, routes = [free_port() for _ in range(brokers)], [free_port() for _ in range(brokers)]
         for at in range(brokers):
             others = ", ".join(f'"nats://127.0.0.1:{each}"' for each in routes if each != routes[at])
@@ -83,11 +83,9 @@ class Cluster:
                 it.write(its)
         with open(self.config, encoding="utf-8") as it:
             text = it.read()
-        urls = ", ".join(f'"nats://127.0.0.1:{each}"' for each in ports)
-        text = re.sub(r"urls = .*", f"urls = [{urls}]", text)
-        for name, its in times.items():
-            text = text.replace("[time]\n", f'[time]\n{name} = "{its}"\n')
-            text = re.sub(rf'(\[time\]\n(?:.*\n)*?{name} = .*\n(?:.+\n)*?){name} = .*\n', r"\1", text)
+        text = re.sub(r"urls = .*", "urls = [" + ", ".join(f'"nats://127.0.0.1:{each}"' for each in ports) + "]", text)
+        for name, value in values.items():
+            text = re.sub(rf"^{name} = .*", f"{name} = {value}", text, flags=re.M)
         with open(self.config, "w", encoding="utf-8") as it:
             it.write(text)
 
@@ -187,7 +185,7 @@ class Faults:
     """What goes wrong in a run, one after another, by the seed. Each is undone before the run ends."""
 
     KINDS = {"agent": 4, "node": 6, "broker": 2, "keeper": 2, "stop agent": 2, "stop node": 3, "stop broker": 1,
-             "stop keeper": 1, "all agents": 1}
+             "stop keeper": 1, "all agents": 3}
 
     def __init__(self, cluster, seed):
         self.cluster, self.dice = cluster, random.Random(f"faults {seed}")
