@@ -35,6 +35,10 @@ func (n *node) run() error {
 			}
 		}
 		n.mutex.Unlock()
+		if n.isLate(group) {
+			n.forget(group[0])
+			continue
+		}
 		if len(group) > 0 {
 			left, err := n.exchange(group)
 			if err != nil {
@@ -56,6 +60,16 @@ func (n *node) run() error {
 			return n.whyEnded()
 		}
 	}
+}
+
+// isLate says whether a pop was sent before the newest epoch was known: the storage server may have dropped the log's
+// generation since, and would not send it any more. It may have waited here for long, so it is judged as it is given.
+func (n *node) isLate(group []*item) bool {
+	if len(group) != 1 || group[0].sort != "pop" || group[0].newest >= n.agent.newestEpoch() {
+		return false
+	}
+	n.agent.bus.Counts.Add("late pops dropped", 1)
+	return true
 }
 
 func (n *node) whyEnded() error {
@@ -138,8 +152,9 @@ func (n *node) exchange(group []*item) ([]*item, error) {
 	var text []byte
 	at := n.agent.bus.Clock.Now()
 	for _, it := range group {
-		it.body.At, it.body.Number = nil, 0
+		it.body.Number = 0
 		if it.body.enters() && !it.regive {
+			it.body.At = &at
 			given, err := json.Marshal(&it.body)
 			if err != nil {
 				return group, err
@@ -152,9 +167,6 @@ func (n *node) exchange(group []*item) ([]*item, error) {
 	}
 	for _, it := range group {
 		it.regive = it.body.enters()
-		if it.body.enters() {
-			it.body.At = &at
-		}
 		line, err := n.line(&it.body)
 		if err != nil {
 			return n.entering(group), err

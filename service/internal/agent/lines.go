@@ -95,6 +95,7 @@ type item struct {
 	sort   string // of an ask of a log: "push", "peek", ..
 	from   uint64 // of a push: the version before it
 	to     uint64 // of a push: its version
+	newest uint64 // of a pop: the newest epoch of which its sender knew
 	key    string // of an ask or a tell: what it is, so that a repeat that waits too is dropped
 	since  time.Time
 	done   func(*answer) // called with the answer, or with nothing if there will be none

@@ -96,11 +96,7 @@ func (a *Agent) deliver(n *node, its *wire.Message) {
 	it.key = from.Token() + string(its.Ask) + string(its.Tell)
 	if n.name.Kind == "log" {
 		it.sort, it.from, it.to, _ = pushed(its.Ask)
-		if newest := a.newestEpoch(); it.sort == "pop" && its.Newest < newest {
-			// (the storage server may have dropped this generation since)
-			a.bus.Counts.Add("late pops dropped", 1)
-			return
-		}
+		it.newest = its.Newest
 	}
 	n.put(it)
 }

@@ -246,7 +246,9 @@ func (n *node) back() error {
 			n.left = append(n.left, it)
 		}
 	}
-	at := n.agent.bus.Clock.Now()
+	// (the crash is entered where the journal ends, and what is given again under its first stamp: so a pop that the node
+	// took is not entered after its storage server left the log's generation)
+	at := n.journal.Tail.Stamp
 	line := &body{Type: "back", At: &at}
 	isHear := len(n.left) > 0 && n.left[0].body.Type == "hear"
 	if isHear {
