@@ -249,6 +249,9 @@ func (n *node) back() error {
 	// (the crash is entered where the journal ends, and what is given again under its first stamp: so a pop that the node
 	// took is not entered after its storage server left the log's generation)
 	at := n.journal.Tail.Stamp
+	if len(n.left) > 0 && n.left[0].body.At != nil && *n.left[0].body.At > at {
+		at = *n.left[0].body.At
+	}
 	line := &body{Type: "back", At: &at}
 	isHear := len(n.left) > 0 && n.left[0].body.Type == "hear"
 	if isHear {
