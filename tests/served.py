@@ -12,6 +12,7 @@ import subprocess
 import time
 
 import built
+from served_net import Disk, Gate
 
 SERVICE = f"{built.TOP}/service/fdbrec-service"
 PACKAGES = "golang-go golang-github-nats-io-go-nats-dev nats-server"
@@ -57,13 +58,16 @@ def free_port():
 class Cluster:
     """Brokers, agents and keepers, each a process of its own, by names as `broker-0`, `m3`, `keeper-1`."""
 
-    def __init__(self, room, brokers=1, machines=5, values=None):
+    def __init__(self, room, brokers=1, machines=5, values=None, is_small=False):
         self.room, self.its, self.logs = room, {}, f"{room}/logs"
         self.config = f"{room}/service.toml"
+        self.gates, self.disk = [], None
         words = ["dev", room, "--write", "--machines", str(machines), "--node", node_words()]
         self.run(*words)
         self.write(brokers, values or {})
         self.words = {f"broker-{at}": ["nats-server", "-c", f"{room}/broker-{at}.conf"] for at in range(brokers)}
+        if is_small:
+            self.disk = Disk(f"{room}/m1", 24)
         for at in range(machines):
             self.run("init", "--machine", f"m{at}")
             self.words[f"m{at}"] = [SERVICE, "agent", "--config", self.config, "--machine", f"m{at}"]
@@ -74,11 +78,13 @@ class Cluster:
     def write(self, brokers, values):
         """Brokers that know one another, and their addresses in the configuration, with other values of its keys."""
         ports, routes = [free_port() for _ in range(brokers)], [free_port() for _ in range(brokers)]
+        self.gates = [Gate(each) for each in routes] if brokers > 1 else []
         for at in range(brokers):
-            others = ", ".join(f'"nats://127.0.0.1:{each}"' for each in routes if each != routes[at])
+            others = ", ".join(f'"nats://127.0.0.1:{each.port}"' for each in self.gates if each != self.gates[at])
             its = f'listen: 127.0.0.1:{ports[at]}\nmax_payload: 67108864\nserver_name: b{at}\nwrite_deadline: "2s"\n'
             if brokers > 1:
-                its += f"cluster {{ name: c, listen: 127.0.0.1:{routes[at]}, routes: [{others}] }}\n"
+                where = f'listen: 127.0.0.1:{routes[at]}, advertise: "127.0.0.1:{self.gates[at].port}"'
+                its += f"cluster {{ name: c, no_advertise: true, {where}, routes: [{others}] }}\n"
             with open(f"{self.room}/broker-{at}.conf", "w", encoding="utf-8") as it:
                 it.write(its)
         with open(self.config, encoding="utf-8") as it:
@@ -141,6 +147,10 @@ class Cluster:
             if each.poll() is None:
                 each.kill()
                 each.wait()
+        for each in self.gates:
+            each.close()
+        if self.disk:
+            self.disk.close()
 
     # ---- commands
 
@@ -185,7 +195,7 @@ class Faults:
     """What goes wrong in a run, one after another, by the seed. Each is undone before the run ends."""
 
     KINDS = {"agent": 4, "node": 6, "broker": 2, "keeper": 2, "stop agent": 2, "stop node": 3, "stop broker": 1,
-             "stop keeper": 1, "all agents": 3}
+             "stop keeper": 1, "all agents": 3, "cut": 4, "full disk": 3}
 
     def __init__(self, cluster, seed):
         self.cluster, self.dice = cluster, random.Random(f"faults {seed}")
@@ -208,7 +218,13 @@ class Faults:
                 each[1](*each[2])
 
     def one(self):
-        kind = self.dice.choices(list(self.KINDS), list(self.KINDS.values()))[0]
+        """One more, of those that this cluster can have."""
+        kinds = dict(self.KINDS)
+        if not self.cluster.gates:
+            del kinds["cut"]
+        if not self.cluster.disk or not self.cluster.disk.is_there:
+            del kinds["full disk"]
+        kind = self.dice.choices(list(kinds), list(kinds.values()))[0]
         self.done.append(kind)
         getattr(self, "do_" + kind.replace(" ", "_"))()
 
@@ -247,6 +263,17 @@ class Faults:
 
     def do_keeper(self):
         self.kill(self.dice.choice(self.named("keeper")), 2)
+
+    def do_cut(self):
+        """Routes between brokers are cut: two of them do not hear one another, but both hear the third; or none hears
+        another one."""
+        for each in self.dice.sample(self.cluster.gates, self.dice.choice([2, 3])):
+            each.shut(True)
+            self.later(self.dice.choice([1, 3, 6]), each.shut, False)
+
+    def do_full_disk(self):
+        self.cluster.disk.fill()
+        self.later(self.dice.choice([0.5, 2, 5]), self.cluster.disk.empty)
 
     def do_node(self):
         its = self.cluster.node_pids()
