@@ -306,7 +306,7 @@ func (n *node) view() *wire.NodeView {
 	return its
 }
 
-// said of names that are not in use any more
+// forget drops a node that was ended.
 func (a *Agent) forget(name names.Node) {
 	a.mutex.Lock()
 	defer a.mutex.Unlock()

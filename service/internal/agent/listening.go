@@ -31,7 +31,7 @@ func (a *Agent) listen() error {
 	return nil
 }
 
-// read reads a message, or counts it as one that is none of ours.
+// parse reads a message, or counts it as one that is none of ours.
 func (a *Agent) parse(m *bus.Received, to interface{}, at *uint64) bool {
 	if err := json.Unmarshal(m.Data, to); err != nil || at != nil && !a.bus.Clock.Takes(*at) {
 		a.strange(m, "it is none of ours")

@@ -75,3 +75,17 @@ func TestStates(t *testing.T) {
 		}
 	}
 }
+
+// The generation after an epoch says through which version that epoch was taken over.
+func TestAfter(t *testing.T) {
+	e := Epoch{Epoch: 1025, State: State{Dropped: 1, Gens: []Generation{{Epoch: 513}, {Epoch: 769, SeededTo: 10}, {Epoch: 1025, SeededTo: 12}}}}
+	for epoch, wanted := range map[uint64]uint64{257: 0, 513: 10, 769: 12, 1025: 0} {
+		next, is := e.After(epoch)
+		if is != (wanted != 0) || next.SeededTo != wanted {
+			t.Errorf("after %d: %v %v", epoch, next, is)
+		}
+	}
+	if !e.Names(513) || e.Names(257) || e.Last().Epoch != 1025 {
+		t.Error("the generations of a state")
+	}
+}
