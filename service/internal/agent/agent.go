@@ -35,7 +35,7 @@ type Agent struct {
 	lock     *os.File
 	say      chan struct{}
 
-	orders sync.Mutex
+	orders sync.Map // of a lock for each node that was ordered something
 	mutex  sync.Mutex
 	nodes  map[string]*node
 	unhear map[string][]func()
@@ -106,7 +106,7 @@ func (a *Agent) resume(its record) {
 	name := its.Order.Node
 	switch {
 	case its.State == "new", name.HasFiles() && (its.State == "starting" || its.State == "started"):
-		a.add(its.Order, its.State == "started")
+		a.add(its.Order, its.State)
 	case its.State == "starting" || its.State == "started":
 		old, err := journal.Open(filepath.Join(a.room, "journals", name.Token()), a.journals)
 		if err == nil {
@@ -122,8 +122,8 @@ func (a *Agent) resume(its record) {
 }
 
 // add runs a node, and hears what is sent to it.
-func (a *Agent) add(order wire.Order, made bool) {
-	n := a.newNode(order, made)
+func (a *Agent) add(order wire.Order, state string) {
+	n := a.newNode(order, state)
 	token := n.name.Token()
 	a.mutex.Lock()
 	a.nodes[token] = n

@@ -14,30 +14,15 @@ import (
 
 // run gives lines to the process as they come, until it ends or the node is stopped.
 func (n *node) run() error {
-	var hold <-chan time.Time
 	for {
-		select {
-		case <-n.stop:
-			return nil
-		default:
-		}
-		n.mutex.Lock()
-		var group []*item
-		if len(n.queue) > 0 {
-			durable, isOpen := uint64(0), false
-			if its := n.where.Log; its != nil {
-				durable, isOpen = its.Durable, its.Seeded && !its.Stopped
-			}
-			group, n.queue = next(n.name.Kind, n.queue, durable, isOpen, time.Now())
-			hold = nil
-			if len(group) == 0 && len(n.queue) > 0 {
-				hold = time.After(holding / 4)
-			}
-		}
-		n.mutex.Unlock()
+		group, hold := n.takeNext()
 		if n.isLate(group) {
 			n.forget(group[0])
 			continue
+		}
+		if n.isStopped() {
+			n.entering(group)
+			return nil
 		}
 		if len(group) > 0 {
 			left, err := n.exchange(group)
@@ -60,6 +45,24 @@ func (n *node) run() error {
 			return n.whyEnded()
 		}
 	}
+}
+
+// takeNext takes the lines that are given next. If all that wait are held back it says when to look again.
+func (n *node) takeNext() (group []*item, hold <-chan time.Time) {
+	n.mutex.Lock()
+	defer n.mutex.Unlock()
+	if len(n.queue) == 0 {
+		return nil, nil
+	}
+	durable, isOpen := uint64(0), false
+	if its := n.where.Log; its != nil {
+		durable, isOpen = its.Durable, its.Seeded && !its.Stopped
+	}
+	group, n.queue = next(n.name.Kind, n.queue, durable, isOpen, time.Now())
+	if len(group) == 0 {
+		hold = time.After(holding / 4)
+	}
+	return group, hold
 }
 
 // isLate says whether a pop was sent before the newest epoch was known: the storage server may have dropped the log's

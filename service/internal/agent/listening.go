@@ -5,6 +5,7 @@ import (
 	"fmt"
 	"os"
 	"strings"
+	"sync"
 
 	"fdbrec/service/internal/bus"
 	"fdbrec/service/internal/names"
@@ -182,8 +183,9 @@ func text(err error) string {
 }
 
 func (a *Agent) obey(its wire.Order) error {
-	a.orders.Lock()
-	defer a.orders.Unlock()
+	lock, _ := a.orders.LoadOrStore(its.Node, &sync.Mutex{})
+	lock.(*sync.Mutex).Lock()
+	defer lock.(*sync.Mutex).Unlock()
 	switch kind := its.Node.Kind; {
 	case its.First || kind == "cell" || kind == "storage":
 		return fmt.Errorf("a %s is made by init alone", kind)
@@ -214,10 +216,11 @@ func (a *Agent) startNode(its wire.Order) error {
 	if halted {
 		return fmt.Errorf("this agent is stopping")
 	}
-	if err := a.note(its, "new"); err != nil {
+	// (noted first, so that a node without files never starts twice)
+	if err := a.note(its, "starting"); err != nil {
 		return err
 	}
-	a.add(its, false)
+	a.add(its, "starting")
 	return nil
 }
 
@@ -231,6 +234,7 @@ func (a *Agent) endNode(its wire.Order, state string) error {
 		a.remove(n)
 		a.forget(n.name)
 	}
+	a.orders.Delete(its.Node)
 	if err := a.note(old.Order, state); err != nil {
 		return err
 	}

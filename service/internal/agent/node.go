@@ -16,13 +16,17 @@ import (
 	"fdbrec/service/internal/wire"
 )
 
-const longest = 2000 // lines that wait for one node; what comes then is lost
+const (
+	longest     = 2000            // lines that wait for one node; what comes then is lost
+	longestRest = 5 * time.Second // before a node that failed is started again
+)
 
 // node is a node of this machine: its process, its journal, and the lines that wait for it.
 type node struct {
 	agent  *Agent
 	name   names.Node
 	order  wire.Order
+	noted  bool // that it is started is on disk
 	made   bool // its process ran before, so that its files must be there
 	slow   report.Times
 	wake   chan struct{}
@@ -55,9 +59,10 @@ type node struct {
 	recovery *wire.Recovery
 }
 
-func (a *Agent) newNode(order wire.Order, made bool) *node {
-	n := &node{agent: a, name: order.Node, order: order, made: made, wake: make(chan struct{}, 1),
-		stop: make(chan struct{}), ending: make(chan struct{}), queued: map[string]bool{}, state: "starting", since: time.Now()}
+func (a *Agent) newNode(order wire.Order, state string) *node {
+	n := &node{agent: a, name: order.Node, order: order, noted: state != "new", made: state == "started",
+		wake: make(chan struct{}, 1), stop: make(chan struct{}), ending: make(chan struct{}), queued: map[string]bool{},
+		state: "starting", since: time.Now()}
 	n.proxy.node, n.storage.node = n, n
 	n.asks.pause = a.config.Again
 	n.asks.send = func(each *wanted) { a.send(each.to, &wire.Message{Type: "ask", From: n.name, Ask: each.ask}) }
@@ -134,7 +139,7 @@ func (n *node) serve() {
 			return
 		}
 		n.set("failed", err.Error())
-		if time.Since(began) > 5*time.Second {
+		if time.Since(began) > longestRest {
 			pause = 50 * time.Millisecond
 		}
 		select {
@@ -142,8 +147,8 @@ func (n *node) serve() {
 			return
 		case <-time.After(pause):
 		}
-		if pause *= 2; pause > 5*time.Second {
-			pause = 5 * time.Second
+		if pause *= 2; pause > longestRest {
+			pause = longestRest
 		}
 	}
 }
@@ -169,11 +174,11 @@ func (n *node) begin() error {
 	if n.made && n.name.HasFiles() && !n.agent.hasFiles(n.name) {
 		return fmt.Errorf("its files are missing in %s", filepath.Join(n.agent.room, "files"))
 	}
-	if !n.made {
-		// (noted first, so that a node without files never starts twice)
+	if !n.noted {
 		if err := n.agent.note(n.order, "starting"); err != nil {
 			return err
 		}
+		n.noted = true
 	}
 	n.set("starting", "")
 	words, err := n.agent.words(n.order)
@@ -194,8 +199,10 @@ func (n *node) begin() error {
 		n.process.End(time.Second)
 		return err
 	}
-	if !n.made {
+	if !n.made && n.name.HasFiles() {
 		if err := n.agent.note(n.order, "started"); err != nil {
+			n.process.Kill()
+			n.process.End(time.Second)
 			return err
 		}
 	}
@@ -237,14 +244,8 @@ func (n *node) isUntouched() bool {
 
 // back settles what a kill left open.
 func (n *node) back() error {
-	if n.left == nil {
-		for _, text := range n.journal.Tail.Open {
-			it := &item{regive: true}
-			if err := json.Unmarshal(text, &it.body); err != nil {
-				return err
-			}
-			n.left = append(n.left, it)
-		}
+	if err := n.findLeft(); err != nil {
+		return err
 	}
 	// (the crash is entered where the journal ends, and what is given again under its first stamp: so a pop that the node
 	// took is not entered after its storage server left the log's generation)
@@ -276,6 +277,21 @@ func (n *node) back() error {
 		n.left = n.left[1:]
 	}
 	n.left = nil
+	return nil
+}
+
+// findLeft finds what was given and not answered before this agent was started.
+func (n *node) findLeft() error {
+	if n.left != nil {
+		return nil
+	}
+	for _, text := range n.journal.Tail.Open {
+		it := &item{regive: true}
+		if err := json.Unmarshal(text, &it.body); err != nil {
+			return err
+		}
+		n.left = append(n.left, it)
+	}
 	return nil
 }
 

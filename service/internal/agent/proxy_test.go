@@ -14,7 +14,7 @@ import (
 // proxyAlone is a proxy of epoch 513 whose node takes no line, so that what waits stays as it is.
 func proxyAlone() *proxy {
 	a := &Agent{config: &config.Config{MaxPayload: 64 << 20}, bus: &bus.Bus{Clock: &bus.Clock{}}}
-	return &a.newNode(wire.Order{Node: names.Node{Kind: "proxy", First: 513}}, false).proxy
+	return &a.newNode(wire.Order{Node: names.Node{Kind: "proxy", First: 513}}, "new").proxy
 }
 
 // open has what waits be under way, as the node's batch number 1.
