@@ -341,7 +341,7 @@ type Value struct {
 func (c *Client) Get(ctx context.Context, key []byte) (Value, error) {
 	at, err := c.Commit(ctx)
 	if err != nil {
-		return Value{}, err
+		return Value{}, fmt.Errorf("%w in time: no version to read at", ErrNoCluster)
 	}
 	return c.GetAfter(ctx, key, at)
 }
