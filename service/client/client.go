@@ -14,7 +14,6 @@ import (
 	"fmt"
 	"sort"
 	"strconv"
-	"strings"
 	"sync"
 	"time"
 
@@ -23,8 +22,9 @@ import (
 	"fdbrec/service/internal/wire"
 )
 
-// Sessions is the prefix of the keys that clients keep: \xff/session/.
-const Sessions = "ff2f73657373696f6e2f"
+// Sessions are the prefixes of the keys that clients keep, \xff/session/ and \x00/session/: one is mostly in the last
+// shard, the other in the first, so that a put whose answer was lost can be settled while one of the two is away.
+var Sessions = []string{"ff2f73657373696f6e2f", "002f73657373696f6e2f"}
 
 // ErrNoCluster says that no machine of the cluster answered in time: nothing was done.
 var ErrNoCluster = errors.New("the cluster does not answer")
@@ -69,7 +69,7 @@ type Client struct {
 	next   uint64
 }
 
-// slot numbers puts that follow one another: each put that is under way has one.
+// slot numbers puts that follow one another: each put that is under way has one. Its key is without a prefix.
 type slot struct {
 	key    string
 	number uint64
@@ -124,11 +124,14 @@ func (c *Client) Close() {
 	c.mutex.Unlock()
 	if made > 0 {
 		ctx, done := context.WithTimeout(context.Background(), 500*time.Millisecond)
-		prefix := Sessions + c.id
 		epoch, err := c.epoch(ctx, 0)
 		if err == nil {
 			var told wire.Submitted
-			_ = c.submit(ctx, epoch, 0, prefix, []Mutation{wire.Mutation("clear", prefix, prefix+"ff")}, &told)
+			var its []Mutation
+			for _, prefix := range Sessions {
+				its = append(its, wire.Mutation("clear", prefix+c.id, prefix+c.id+"ff"))
+			}
+			_ = c.submit(ctx, epoch, 0, c.id, its, &told)
 		}
 		done()
 	}
@@ -183,7 +186,7 @@ func (c *Client) slot() *slot {
 		return its
 	}
 	c.made++
-	return &slot{key: Sessions + c.id + fmt.Sprintf("%04x", c.made)}
+	return &slot{key: c.id + fmt.Sprintf("%04x", c.made)}
 }
 
 func (c *Client) free(its *slot) {
@@ -198,7 +201,10 @@ func (c *Client) Commit(ctx context.Context, its ...Mutation) (Version, error) {
 	slot := c.slot()
 	slot.number++
 	number := fmt.Sprintf("%016x", slot.number)
-	whole := append(append([]Mutation(nil), its...), wire.Mutation("set", slot.key, number))
+	whole := append([]Mutation(nil), its...)
+	for _, prefix := range Sessions {
+		whole = append(whole, wire.Mutation("set", prefix+slot.key, number))
+	}
 	above := uint64(0)
 	for {
 		epoch, err := c.epoch(ctx, above)
@@ -219,41 +225,6 @@ func (c *Client) Commit(ctx context.Context, its ...Mutation) (Version, error) {
 	}
 }
 
-// try makes a put in an epoch. If it is to be made again, an error says that first another epoch has to be there. The
-// proxy's agent knows a put by its id, so that it can be asked again as long as the epoch lasts.
-func (c *Client) try(ctx context.Context, epoch uint64, key, number string, its []Mutation) (Version, bool, error) {
-	proxy := c.proxy()
-	for isSent := false; ; {
-		var told wire.Submitted
-		one, done := context.WithTimeout(ctx, 400*time.Millisecond)
-		err := c.submit(one, epoch, proxy, key+number, its, &told)
-		done()
-		switch {
-		case err == nil && told.Committed:
-			return Version{told.Epoch, told.Version}, false, nil
-		case err == nil && told.IsBad && !isSent:
-			return Version{}, false, errors.New(told.Refused)
-		case err == nil && told.Refused != "" && !isSent:
-			return Version{}, true, pause(ctx, nil)
-		case err == nil && told.Ended:
-			return c.ended(ctx, epoch, &told, key, number)
-		case err == nil:
-			return c.settle(ctx, epoch, key, number)
-		case isNobody(err) && !isSent:
-			return Version{}, true, pause(ctx, nil)
-		case !isNobody(err):
-			isSent = true
-		}
-		if later, _ := c.known(); later > epoch {
-			return c.settle(ctx, epoch, key, number)
-		}
-		if ctx.Err() != nil {
-			return Version{}, false, fmt.Errorf("%w: %v", ErrUnknown, ctx.Err())
-		}
-		_ = pause(ctx, nil)
-	}
-}
-
 // proxy is one of the proxies of an epoch.
 func (c *Client) proxy() uint64 {
 	c.mutex.Lock()
@@ -270,58 +241,6 @@ func (c *Client) known() (uint64, uint64) {
 		return 0, 0
 	}
 	return c.newest.Epoch, c.newest.Rv
-}
-
-func isNobody(err error) bool { return err != nil && strings.Contains(err.Error(), "no responders") }
-
-func pause(ctx context.Context, err error) error {
-	select {
-	case <-ctx.Done():
-	case <-time.After(20 * time.Millisecond):
-	}
-	return err
-}
-
-var errAgain = errors.New("it was not committed in this epoch")
-
-// ended finds out what became of a put whose epoch ended, by its version: the next epoch took over all versions through
-// one, and no others.
-func (c *Client) ended(ctx context.Context, epoch uint64, told *wire.Submitted, key, number string) (Version, bool, error) {
-	if _, err := c.epoch(ctx, epoch); err != nil {
-		return Version{}, false, fmt.Errorf("%w: the epoch did not end in time", ErrUnknown)
-	}
-	c.mutex.Lock()
-	next, is := c.newest.After(epoch)
-	c.mutex.Unlock()
-	switch {
-	case !is:
-		return c.settle(ctx, epoch, key, number)
-	case told.Version != 0 && told.Version <= next.SeededTo:
-		return Version{epoch, told.Version}, false, nil
-	}
-	return Version{}, true, errAgain
-}
-
-// settle finds out what became of a put whose answer was lost. Once the storage server is in a later epoch, what it does
-// not show there was not committed, and never will be.
-func (c *Client) settle(ctx context.Context, epoch uint64, key, number string) (Version, bool, error) {
-	for {
-		later, err := c.epoch(ctx, epoch)
-		if err != nil {
-			return Version{}, false, fmt.Errorf("%w: the epoch did not end in time", ErrUnknown)
-		}
-		_, least := c.known()
-		got, err := c.ask(ctx, wire.Read{Key: key, Mode: "after", Epoch: later, Version: least})
-		if err == nil && got.Value != nil && *got.Value == number {
-			return Version{later, got.Version}, false, nil
-		}
-		if err == nil {
-			return Version{}, true, errAgain
-		}
-		if ctx.Err() != nil {
-			return Version{}, false, fmt.Errorf("%w: %v", ErrUnknown, ctx.Err())
-		}
-	}
 }
 
 // Put has a key hold a value.

@@ -28,8 +28,8 @@ func Mutation(name, first, second string) json.RawMessage {
 // JudgeMutations says what is wrong with a list of mutations, or nothing: a node would refuse the whole batch, and with
 // it the mutations of others.
 func JudgeMutations(list []json.RawMessage) error {
-	if len(list) > mostMutations-1 {
-		return fmt.Errorf("%d mutations; at most %d are taken", len(list), mostMutations-1)
+	if len(list) > mostMutations {
+		return fmt.Errorf("%d mutations; at most %d are taken", len(list), mostMutations)
 	}
 	for at, text := range list {
 		if err := judgeMutation(text); err != nil {

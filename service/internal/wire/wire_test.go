@@ -58,8 +58,12 @@ func TestMutations(t *testing.T) {
 	if text := Mutation("clear", "61", "62"); string(text) != `{"clear":{"begin":"61","end":"62"}}` {
 		t.Errorf("%s", text)
 	}
-	if JudgeMutations(make([]json.RawMessage, 1000)) == nil {
-		t.Error("1,000 mutations leave no room for another one")
+	many := make([]json.RawMessage, 1001)
+	for at := range many {
+		many[at] = Mutation("set", "61", "62")
+	}
+	if JudgeMutations(many) == nil || JudgeMutations(many[:1000]) != nil {
+		t.Error("a batch has at most 1,000 mutations")
 	}
 }
 
