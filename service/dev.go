@@ -54,7 +54,7 @@ func runDev(folder, path string, its *config.Config) error {
 	commands := map[string][]string{"broker": {"nats-server", "-c", filepath.Join(folder, "broker.conf")}}
 	for _, machine := range its.Machines {
 		if _, err := os.Stat(filepath.Join(machine.Room, "room.json")); err != nil {
-			if err := agent.Init(its, machine); err != nil {
+			if err := agent.Init(its, machine, false); err != nil {
 				return &ending{3, err.Error()}
 			}
 		}

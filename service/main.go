@@ -15,7 +15,7 @@ import (
 
 const usage = `fdbrec-service COMMAND --config FILE ..
 
-  init --machine NAME             make the folder of a machine, once
+  init --machine NAME [--join]    make the folder of a machine, once; --join: of one that is added to a cluster that runs
   init --number N                 make the folder of a keeper, once
   agent --machine NAME            run the nodes of a machine
   keeper --number N               watch the cluster, and begin recoveries
@@ -90,7 +90,7 @@ type words struct {
 
 var valued = map[string]bool{"config": true, "machine": true, "number": true, "within": true, "log": true, "seconds": true,
 	"clients": true, "acks": true, "machines": true, "broker": true, "node": true}
-var plain = map[string]bool{"json": true, "hex": true, "settled": true, "stale": true, "write": true}
+var plain = map[string]bool{"json": true, "hex": true, "settled": true, "stale": true, "write": true, "join": true}
 
 func parse(its []string) (*words, error) {
 	found := &words{options: map[string]string{}}

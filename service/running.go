@@ -30,7 +30,7 @@ func initialize(w *words) error {
 	if err != nil {
 		return err
 	}
-	if err := agent.Init(its, machine); err != nil {
+	if err := agent.Init(its, machine, w.options["join"] != ""); err != nil {
 		return &ending{3, err.Error()}
 	}
 	fmt.Printf("%s is made: machine %s of cluster %s\n", machine.Room, machine.Name, its.Cluster)

@@ -81,8 +81,12 @@ func FirstNodes(c *config.Config, machine *config.Machine) []wire.Order {
 	return found
 }
 
-// Init makes the folder of a machine. One that is there is refused: its promises must not be forgotten.
-func Init(c *config.Config, machine *config.Machine) error {
+// Init makes the folder of a machine. One that is there is refused: its promises must not be forgotten. A machine that
+// joins a cluster which runs already gets no node of the start: those are, or were, elsewhere.
+func Init(c *config.Config, machine *config.Machine, joins bool) error {
+	if joins && len(machine.Cells)+len(machine.Storages) > 0 {
+		return fmt.Errorf("%s: a machine that joins can have no cells and no storage servers", machine.Name)
+	}
 	path := filepath.Join(machine.Room, "room.json")
 	if _, err := os.Stat(path); err == nil {
 		return fmt.Errorf("%s is there already: this machine was made before", path)
@@ -93,6 +97,9 @@ func Init(c *config.Config, machine *config.Machine) error {
 		}
 	}
 	for _, order := range FirstNodes(c, machine) {
+		if joins {
+			break
+		}
 		if err := writeJSON(filepath.Join(machine.Room, "nodes", order.Node.Token()+".json"), record{order, "new"}); err != nil {
 			return err
 		}
