@@ -76,9 +76,7 @@ func (a *Agent) Run(stop <-chan struct{}) error {
 	if err != nil {
 		return err
 	}
-	for _, each := range its {
-		a.resume(each)
-	}
+	go a.resumeAll(its)
 	tick, alive := time.NewTicker(10*time.Millisecond), time.NewTicker(a.config.Alive)
 	defer tick.Stop()
 	defer alive.Stop()
@@ -97,6 +95,18 @@ func (a *Agent) Run(stop <-chan struct{}) error {
 			a.tell()
 		case <-a.say:
 			a.tell()
+		}
+	}
+}
+
+// resumeAll starts what was here before: beside the agent's turns, since a slow disk must not keep it silent. Nodes with
+// files come first; the journals of those that are gone can wait.
+func (a *Agent) resumeAll(its []record) {
+	for _, hasFiles := range []bool{true, false} {
+		for _, each := range its {
+			if each.Order.Node.HasFiles() == hasFiles {
+				a.resume(each)
+			}
 		}
 	}
 }
@@ -126,6 +136,10 @@ func (a *Agent) add(order wire.Order, state string) {
 	n := a.newNode(order, state)
 	token := n.name.Token()
 	a.mutex.Lock()
+	if a.halted {
+		a.mutex.Unlock()
+		return
+	}
 	a.nodes[token] = n
 	a.mutex.Unlock()
 	a.hear(token, "", func(m *bus.Received) { a.receive(n, m) }, "node", token)
