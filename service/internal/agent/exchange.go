@@ -1,0 +1,328 @@
+package agent
+
+import (
+	"encoding/json"
+	"errors"
+	"fmt"
+	"strings"
+	"time"
+
+	"fdbrec/service/internal/journal"
+	"fdbrec/service/internal/process"
+	"fdbrec/service/internal/wire"
+)
+
+// run gives lines to the process as they come, until it ends or the node is stopped.
+func (n *node) run() error {
+	for {
+		group, hold := n.takeNext()
+		if n.isLate(group) {
+			n.forget(group[0])
+			continue
+		}
+		if n.isStopped() {
+			n.entering(group)
+			return nil
+		}
+		if len(group) > 0 {
+			left, err := n.exchange(group)
+			if err != nil {
+				n.left = left
+				return err
+			}
+			continue
+		}
+		select {
+		case <-n.stop:
+			return nil
+		case <-n.wake:
+		case <-hold:
+		case line, is := <-n.process.Answers:
+			if is {
+				n.process.Kill()
+				return fmt.Errorf("it says unasked %.100s", line)
+			}
+			return n.whyEnded()
+		}
+	}
+}
+
+// takeNext takes the lines that are given next. If all that wait are held back it says when to look again.
+func (n *node) takeNext() (group []*item, hold <-chan time.Time) {
+	n.mutex.Lock()
+	defer n.mutex.Unlock()
+	if len(n.queue) == 0 {
+		return nil, nil
+	}
+	durable, isOpen := uint64(0), false
+	if its := n.where.Log; its != nil {
+		durable, isOpen = its.Durable, its.Seeded && !its.Stopped
+	}
+	group, n.queue = next(n.name.Kind, n.queue, durable, isOpen, time.Now())
+	if len(group) == 0 {
+		hold = time.After(holding / 4)
+	}
+	return group, hold
+}
+
+// isLate says whether a pop was sent before the newest epoch was known: the storage server may have dropped the log's
+// generation since, and would not send it any more. It may have waited here for long, so it is judged as it is given.
+func (n *node) isLate(group []*item) bool {
+	if len(group) != 1 || group[0].sort != "pop" || group[0].newest >= n.agent.newestEpoch() {
+		return false
+	}
+	n.agent.bus.Counts.Add("late pops dropped", 1)
+	return true
+}
+
+func (n *node) whyEnded() error {
+	text := n.process.Status()
+	if said := strings.TrimSpace(process.Said(n.agent.said(n.name))); said != "" {
+		lines := strings.Split(said, "\n")
+		text += ": " + lines[len(lines)-1]
+	}
+	return errors.New(text)
+}
+
+// line spells a line.
+func (n *node) line(its *body) ([]byte, error) {
+	n.number++
+	its.Number = n.number
+	text, err := json.Marshal(struct {
+		Src  string `json:"src"`
+		Dest string `json:"dest"`
+		Body *body  `json:"body"`
+	}{"agent", n.name.Spoken(), its})
+	return append(text, '\n'), err
+}
+
+// talk gives one line that is not of the queue, and reads its answer.
+func (n *node) talk(its *body) (*answer, error) {
+	text, err := n.line(its)
+	if err != nil {
+		return nil, err
+	}
+	if err := n.process.Write(text); err != nil {
+		return nil, n.whyEnded()
+	}
+	answer, err := n.read(its)
+	if err == nil && answer.Type == "error" {
+		return nil, fmt.Errorf("it answers %s by error %d, %s", its.Type, answer.Code, answer.Text)
+	}
+	return answer, err
+}
+
+// read reads the answer to a line.
+func (n *node) read(its *body) (*answer, error) {
+	most := n.agent.config.Patience
+	if n.isStopped() {
+		most = 5 * time.Second
+	}
+	patience := time.NewTimer(most)
+	defer patience.Stop()
+	select {
+	case text, is := <-n.process.Answers:
+		if !is {
+			return nil, n.whyEnded()
+		}
+		return n.parse(its, text)
+	case <-patience.C:
+		n.process.Kill()
+		return nil, fmt.Errorf("it did not answer for %v", most)
+	}
+}
+
+func (n *node) parse(its *body, text []byte) (*answer, error) {
+	var line struct {
+		Src  string `json:"src"`
+		Dest string `json:"dest"`
+		Body answer `json:"body"`
+	}
+	err := json.Unmarshal(text, &line)
+	is := err == nil && line.Src == n.name.Spoken() && line.Dest == "agent" && line.Body.InReplyTo != nil &&
+		*line.Body.InReplyTo == its.Number && (line.Body.Type == its.Type+"_ok" || line.Body.Type == "error")
+	if !is {
+		n.process.Kill()
+		return nil, fmt.Errorf("it answers line %d, %s, by %.200s", its.Number, its.Type, text)
+	}
+	return &line.Body, nil
+}
+
+// exchange gives lines together, and takes their answers as they come: first into the journal, then what they bring
+// about. What has no answer comes back, for the node's next start.
+func (n *node) exchange(group []*item) ([]*item, error) {
+	var records []journal.Record
+	var text []byte
+	at := n.agent.bus.Clock.Now()
+	for _, it := range group {
+		it.body.Number = 0
+		if it.body.enters() && !it.regive {
+			it.body.At = &at
+			given, err := json.Marshal(&it.body)
+			if err != nil {
+				return group, err
+			}
+			records = append(records, journal.Record{Given: given})
+		}
+	}
+	if err := n.write(records...); err != nil {
+		return n.entering(group), err
+	}
+	for _, it := range group {
+		it.regive = it.body.enters()
+		line, err := n.line(&it.body)
+		if err != nil {
+			return n.entering(group), err
+		}
+		text = append(text, line...)
+	}
+	n.with(time.Now())
+	its := n.process
+	go func() { _ = its.Write(text) }()
+	left, err := n.answers(group)
+	n.with(time.Time{})
+	return n.entering(left), err
+}
+
+func (n *node) with(since time.Time) {
+	n.mutex.Lock()
+	defer n.mutex.Unlock()
+	n.asking = since
+}
+
+// answers reads the answers to a group, and returns what has none. Those that are there already are taken together.
+func (n *node) answers(group []*item) ([]*item, error) {
+	for len(group) > 0 {
+		began := time.Now()
+		one, err := n.read(&group[0].body)
+		if err != nil {
+			return group, err
+		}
+		n.slow.Add(time.Since(began))
+		found := []*answer{one}
+		for err == nil && len(found) < len(group) && len(n.process.Answers) > 0 {
+			if one, err = n.read(&group[len(found)].body); err == nil {
+				found = append(found, one)
+			}
+		}
+		if err := n.takeAll(group, found); err != nil {
+			return group[len(found):], err
+		}
+		n.with(time.Now())
+		group = group[len(found):]
+		if err != nil {
+			return group, err
+		}
+	}
+	return nil, nil
+}
+
+// entering are the lines of a group that enter something. The others get no answer then.
+func (n *node) entering(group []*item) []*item {
+	var found []*item
+	for _, it := range group {
+		n.forget(it)
+		if it.body.enters() {
+			found = append(found, it)
+		} else if it.done != nil {
+			it.done(nil)
+		}
+	}
+	return found
+}
+
+func (n *node) forget(it *item) {
+	n.mutex.Lock()
+	defer n.mutex.Unlock()
+	delete(n.queued, it.key)
+}
+
+func (n *node) takeAll(group []*item, found []*answer) error {
+	var records []journal.Record
+	for at, its := range found {
+		switch {
+		case !group[at].body.enters():
+		case its.Type == "error":
+			records = append(records, journal.Record{Refused: its.Code})
+		default:
+			records = append(records, journal.Record{Answer: &journal.Said{Entries: its.entries(), Last: bare(its.Last)}})
+		}
+	}
+	if err := n.write(records...); err != nil {
+		return err
+	}
+	for at, its := range found {
+		n.forget(group[at])
+		n.took(group[at], its)
+		if its.Type == "error" && its.Code == 13 {
+			n.process.Kill()
+			return fmt.Errorf("it cannot go on: %s", its.Text)
+		}
+	}
+	return nil
+}
+
+// took does what an answer brings about: tells and asks leave, and whoever waits is told.
+func (n *node) took(it *item, its *answer) {
+	n.heed(its)
+	for _, text := range its.entries() {
+		var entry act
+		if err := json.Unmarshal(text, &entry); err != nil {
+			n.agent.log.Error("an entry that is none", "node", n.name.Spoken(), "entry", string(text))
+			continue
+		}
+		n.agent.bus.Clock.See(entry.Stamp)
+		if asked := entry.Act.Asked; asked != nil {
+			n.agent.send(asked.From, &wire.Message{Type: "hear", From: n.name, Tell: asked.Tell})
+		}
+		if heard := entry.Act.Heard; heard != nil {
+			n.heard(&entry)
+		}
+	}
+	if its.Type != "error" && n.name.Kind != "storage" && its.Wants != nil {
+		n.asks.want(its.Wants)
+	}
+	if n.name.Kind == "recoverer" {
+		n.recovers(its)
+	}
+	if it.done != nil {
+		it.done(its)
+	}
+}
+
+func (n *node) heard(entry *act) {
+	its := entry.Act.Heard
+	switch n.name.Kind {
+	case "proxy":
+		n.proxy.numbered(its.Tell["seq"])
+		for name, each := range its.Outcome {
+			n.proxy.outcome(name, each.Version)
+		}
+	case "storage":
+		n.storage.heard(its.From, its.Tell["log"])
+	case "recoverer":
+		if _, is := chosen(n.phase()); is {
+			n.asks.isHeld(its.From, its.Tell["log"])
+		}
+	}
+}
+
+// heed keeps where the node stands.
+func (n *node) heed(its *answer) {
+	n.mutex.Lock()
+	defer n.mutex.Unlock()
+	if its.Type == "error" {
+		n.errors++
+		n.full = n.full || its.Text == "Full"
+		n.agent.bus.Counts.Add("lines refused", 1)
+		return
+	}
+	if its.Last == nil {
+		return
+	}
+	var stands where
+	if json.Unmarshal(its.Last, &stands) == nil {
+		n.where = stands
+	}
+	n.last = bare(its.Last)
+}

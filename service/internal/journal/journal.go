@@ -1,0 +1,275 @@
+// Package journal keeps on disk what a node was given and what it answered, so that its acts can be audited, and so that
+// a node that was killed is given again what it did not answer. A journal is a folder of files 000001.jsonl and so on,
+// of lines of JSON:
+//
+//	{"begins":{"stamp":S,"version":V}}         the first line of a file: the last stamp, and a storage server's version
+//	{"given":BODY}                             before a line that enters something is given to the node
+//	{"answer":{"entries":[..],"last":LAST}}    before what the node told leaves; it answers the oldest line given
+//	{"refused":CODE}                           the same for a line that the node refused
+//	{"entries":[..],"last":LAST}               entries that answer no line that was given: of begin, back, a crash
+//	{"last":LAST}                              where the node stands, in full, before it is ended
+//
+// A new file begins when one is large and no line is open. Older files are for audits alone, and may be dropped.
+package journal
+
+import (
+	"bytes"
+	"encoding/json"
+	"fmt"
+	"os"
+	"path/filepath"
+	"sort"
+	"time"
+
+	"fdbrec/service/internal/report"
+)
+
+// Options say how journals are kept.
+type Options struct {
+	Keep   bool
+	Fsync  bool
+	Rotate int64
+	Times  *report.Times // of fsync
+}
+
+// Journal is the journal of one node, open at its end.
+type Journal struct {
+	folder  string
+	options Options
+	file    *os.File
+	number  int
+	size    int64
+	Tail    Tail
+}
+
+// Tail is what the newest file says of the node's end.
+type Tail struct {
+	Open    []json.RawMessage // lines that were given and not answered, the oldest first
+	Stamp   uint64
+	Version uint64 // of a storage server's last answer
+	Last    json.RawMessage
+	IsThere bool // whether it ever said where it stands
+	Ended   bool // its last entry says that it crashed
+}
+
+// Record is a line of a file.
+type Record struct {
+	Begins  *Begins           `json:"begins,omitempty"`
+	Given   json.RawMessage   `json:"given,omitempty"`
+	Answer  *Said             `json:"answer,omitempty"`
+	Refused int               `json:"refused,omitempty"`
+	Entries []json.RawMessage `json:"entries,omitempty"`
+	Last    json.RawMessage   `json:"last,omitempty"`
+}
+
+// Begins is where the node stood when a file began.
+type Begins struct {
+	Stamp   uint64          `json:"stamp"`
+	Version uint64          `json:"version"`
+	Last    json.RawMessage `json:"last,omitempty"`
+}
+
+// Said is an answer: its entries, and where the node stands.
+type Said struct {
+	Entries []json.RawMessage `json:"entries"`
+	Last    json.RawMessage   `json:"last,omitempty"`
+}
+
+// Entry is as much of an entry as a journal looks at.
+type Entry struct {
+	Stamp uint64                     `json:"stamp"`
+	Act   map[string]json.RawMessage `json:"act"`
+}
+
+// Files are the files of a journal's folder, in their order.
+func Files(folder string) ([]string, error) {
+	found, err := filepath.Glob(filepath.Join(folder, "[0-9][0-9][0-9][0-9][0-9][0-9].jsonl"))
+	sort.Strings(found)
+	return found, err
+}
+
+// Open opens a journal, or makes it. A line that was cut off by a crash is dropped.
+func Open(folder string, options Options) (*Journal, error) {
+	j := &Journal{folder: folder, options: options, number: 1}
+	if !options.Keep {
+		return j, nil
+	}
+	if err := os.MkdirAll(folder, 0o755); err != nil {
+		return nil, err
+	}
+	files, err := Files(folder)
+	if err != nil {
+		return nil, err
+	}
+	path := filepath.Join(folder, fmt.Sprintf("%06d.jsonl", 1))
+	if len(files) > 0 {
+		path = files[len(files)-1]
+		if _, err := fmt.Sscanf(filepath.Base(path), "%06d.jsonl", &j.number); err != nil {
+			return nil, err
+		}
+	}
+	if err := j.read(path); err != nil {
+		return nil, err
+	}
+	return j, nil
+}
+
+func (j *Journal) read(path string) error {
+	data, err := os.ReadFile(path)
+	if err != nil && !os.IsNotExist(err) {
+		return err
+	}
+	whole := data[:bytes.LastIndexByte(data, '\n')+1]
+	if err := j.Tail.Take(path, whole); err != nil {
+		return err
+	}
+	j.size = int64(len(whole))
+	j.file, err = os.OpenFile(path, os.O_RDWR|os.O_CREATE, 0o644)
+	if err != nil {
+		return err
+	}
+	if err := j.file.Truncate(j.size); err != nil {
+		return err
+	}
+	return syncFolder(j.folder)
+}
+
+// Take reads the lines of a file.
+func (t *Tail) Take(path string, whole []byte) error {
+	for number, line := range bytes.Split(bytes.TrimSuffix(whole, []byte("\n")), []byte("\n")) {
+		if len(line) == 0 && len(whole) == 0 {
+			continue
+		}
+		var its Record
+		if err := json.Unmarshal(line, &its); err != nil {
+			return fmt.Errorf("%s:%d: no line of a journal: %v", path, number+1, err)
+		}
+		t.take(&its)
+	}
+	return nil
+}
+
+func (t *Tail) take(its *Record) {
+	if its.Begins != nil {
+		t.Stamp, t.Version, t.IsThere = its.Begins.Stamp, its.Begins.Version, its.Begins.Last != nil
+		t.Last = its.Begins.Last
+	}
+	if its.Given != nil {
+		t.Open = append(t.Open, its.Given)
+	}
+	if (its.Answer != nil || its.Refused != 0) && len(t.Open) > 0 {
+		t.Open = t.Open[1:]
+	}
+	entries, last := its.Entries, its.Last
+	if its.Answer != nil {
+		entries, last = its.Answer.Entries, its.Answer.Last
+	}
+	for _, text := range entries {
+		var entry Entry
+		if json.Unmarshal(text, &entry) == nil {
+			t.Stamp = entry.Stamp
+			_, t.Ended = entry.Act["crashed"]
+		}
+	}
+	if last != nil {
+		t.Last, t.IsThere = last, true
+		var where struct {
+			Storage struct {
+				Version uint64 `json:"version"`
+			} `json:"storage"`
+		}
+		if json.Unmarshal(last, &where) == nil {
+			t.Version = where.Storage.Version
+		}
+	}
+}
+
+// Write appends records, and syncs them if that is wanted. If there is no room nothing of them is left.
+func (j *Journal) Write(records ...Record) error {
+	if !j.options.Keep {
+		for at := range records {
+			j.Tail.take(&records[at])
+		}
+		return nil
+	}
+	if len(records) == 0 {
+		return nil
+	}
+	var text []byte
+	for _, each := range records {
+		line, err := json.Marshal(each)
+		if err != nil {
+			return err
+		}
+		text = append(append(text, line...), '\n')
+	}
+	if err := j.append(text); err != nil {
+		return err
+	}
+	for at := range records {
+		j.Tail.take(&records[at])
+	}
+	if j.size > j.options.Rotate && len(j.Tail.Open) == 0 {
+		return j.turn()
+	}
+	return nil
+}
+
+func (j *Journal) append(text []byte) error {
+	_, err := j.file.WriteAt(text, j.size)
+	if err == nil && j.options.Fsync {
+		began := time.Now()
+		if err = j.file.Sync(); err == nil && j.options.Times != nil {
+			j.options.Times.Add(time.Since(began))
+		}
+	}
+	if err != nil {
+		_ = j.file.Truncate(j.size)
+		return err
+	}
+	j.size += int64(len(text))
+	return nil
+}
+
+// turn begins a new file.
+func (j *Journal) turn() error {
+	path := filepath.Join(j.folder, fmt.Sprintf("%06d.jsonl", j.number+1))
+	file, err := os.OpenFile(path, os.O_RDWR|os.O_CREATE|os.O_TRUNC, 0o644)
+	if err != nil {
+		return nil // (the old one goes on)
+	}
+	text, err := json.Marshal(Record{Begins: &Begins{j.Tail.Stamp, j.Tail.Version, j.Tail.Last}})
+	if err == nil {
+		_, err = file.WriteAt(append(text, '\n'), 0)
+	}
+	if err == nil {
+		err = file.Sync()
+	}
+	if err != nil {
+		_ = file.Close()
+		_ = os.Remove(path)
+		return nil
+	}
+	if err := syncFolder(j.folder); err != nil {
+		return err
+	}
+	_ = j.file.Close()
+	j.file, j.size, j.number = file, int64(len(text)+1), j.number+1
+	return nil
+}
+
+// Close closes the file.
+func (j *Journal) Close() {
+	if j.file != nil {
+		_ = j.file.Close()
+	}
+}
+
+func syncFolder(path string) error {
+	folder, err := os.Open(path)
+	if err != nil {
+		return err
+	}
+	defer func() { _ = folder.Close() }()
+	return folder.Sync()
+}

@@ -1,0 +1,189 @@
+package keeper
+
+import (
+	"encoding/json"
+	"fmt"
+	"os"
+	"path/filepath"
+	"strings"
+	"testing"
+	"time"
+
+	"fdbrec/service/internal/config"
+	"fdbrec/service/internal/names"
+	"fdbrec/service/internal/report"
+	"fdbrec/service/internal/wire"
+)
+
+func of(room string) *Keeper {
+	its := &config.Keeper{Number: 3, Room: room}
+	c := &config.Config{Cluster: "c", Logs: 2, Degree: 2, Proxies: 1, Alive: 100 * time.Millisecond, Suspect: time.Second,
+		Progress: 2 * time.Second, Start: 10 * time.Second, Recovery: 10 * time.Second, Keepers: []*config.Keeper{its},
+		Machines: []*config.Machine{{Name: "m0"}, {Name: "m1"}}}
+	return &Keeper{config: c, its: its, log: report.New("test", 9), machines: map[string]*machine{},
+		keepers: map[uint64]time.Time{}, since: map[string]time.Time{}, open: map[string]openBatch{}, dropped: map[string]time.Time{}}
+}
+
+// A round that was kept is known to the keeper's next run; without its file there is no keeper.
+func TestRounds(t *testing.T) {
+	room := filepath.Join(t.TempDir(), "k")
+	if err := of(room).enter(); err == nil || !strings.Contains(err.Error(), "has no keeper.json") {
+		t.Error(err)
+	}
+	if err := Init(of(room).config, of(room).its); err != nil {
+		t.Fatal(err)
+	}
+	if err := Init(of(room).config, of(room).its); err == nil {
+		t.Error("a folder is made twice")
+	}
+	first := of(room)
+	if err := first.enter(); err != nil || first.round != 1 {
+		t.Fatal(err, first.round)
+	}
+	if err := of(room).enter(); err == nil || !strings.Contains(err.Error(), "in use") {
+		t.Error("two keepers over one folder:", err)
+	}
+	for round := uint64(2); round < 9; round++ {
+		if err := first.keep(round); err != nil {
+			t.Fatal(err)
+		}
+		text, _ := os.ReadFile(filepath.Join(room, "keeper.json"))
+		if its := (state{}); json.Unmarshal(text, &its) != nil || its.Round != round {
+			t.Errorf("round %d is not on disk: %s", round, text)
+		}
+	}
+	_ = first.lock.Close()
+	second := of(room)
+	if err := second.enter(); err != nil || second.round != 8 {
+		t.Error(err, second.round)
+	}
+	_ = second.lock.Close()
+	other := of(room)
+	other.its.Number = 4
+	if err := other.enter(); err == nil || !strings.Contains(err.Error(), "is of keeper 3 of cluster c") {
+		t.Error(err)
+	}
+}
+
+func mustParse(token string) names.Node {
+	name, err := names.Parse(token)
+	if err != nil {
+		panic(err)
+	}
+	return name
+}
+
+// world has all nodes of epoch 257 well, on two machines that were heard just now.
+func world(now time.Time) *Keeper {
+	k := of("")
+	k.born, k.calm, k.wasWell = now.Add(-time.Hour), now.Add(-time.Hour), true
+	gens := []wire.Generation{{Epoch: 257, First: 1, K: 2, M: 2}}
+	k.newest, k.opened = &wire.Epoch{Epoch: 257, State: wire.State{Gens: gens}}, now.Add(-time.Hour)
+	for at, tokens := range [][]string{{"log-257-0", "sequencer-257"}, {"log-257-1", "proxy-257-0"}} {
+		alive := &wire.Alive{Machine: fmt.Sprintf("m%d", at), Nodes: map[string]*wire.NodeView{}}
+		for _, token := range tokens {
+			alive.Nodes[token] = &wire.NodeView{State: "up"}
+		}
+		k.machines[alive.Machine] = &machine{alive, now}
+	}
+	return k
+}
+
+// Each row spoils the world, and says for how long it is borne: just before nothing is suspected, just after it is.
+func TestSuspicion(t *testing.T) {
+	now := time.Now()
+	node := func(k *Keeper, token string) *wire.NodeView {
+		found, _ := k.viewOf(mustParse(token))
+		return found
+	}
+	rows := []struct {
+		name  string
+		spoil func(*Keeper)
+		borne time.Duration
+		why   string
+	}{
+		{"gone", func(k *Keeper) { node(k, "sequencer-257").State = "gone" }, 0, "sequencer 257 is gone"},
+		{"ended", func(k *Keeper) { node(k, "proxy-257-0").State = "ended" }, 0, "proxy 257 0 is ended"},
+		{"full", func(k *Keeper) { node(k, "log-257-1").Full = true }, 0, "log 257 1 has a file that is full"},
+		{"failed", func(k *Keeper) { node(k, "log-257-1").State = "failed" }, time.Second, "log 257 1 is failed"},
+		{"starting", func(k *Keeper) { node(k, "log-257-0").State = "starting" }, 10 * time.Second, "log 257 0 is starting"},
+		{"missing", func(k *Keeper) { delete(k.machines["m1"].alive.Nodes, "log-257-1") }, time.Second, "log 257 1 is on no machine"},
+		{"still", func(k *Keeper) { node(k, "log-257-0").Waiting = 1001 }, 500 * time.Millisecond, "log 257 0 does not answer"},
+		{"open", func(k *Keeper) { node(k, "proxy-257-0").Open = 7 }, 2 * time.Second, "proxy 257 0 has had a batch open"},
+	}
+	for _, row := range rows {
+		k := world(now)
+		if why := k.suspect(now); why != "" {
+			t.Fatalf("all is well: %s", why)
+		}
+		row.spoil(k)
+		hear := func(at time.Time) {
+			for _, each := range k.machines {
+				each.heard = at
+			}
+		}
+		if why := k.suspect(now); (why != "") != (row.borne == 0) || why != "" && !strings.HasPrefix(why, row.why) {
+			t.Errorf("%s, at once: %q", row.name, why)
+		}
+		if row.borne == 0 {
+			continue
+		}
+		hear(now.Add(row.borne - time.Millisecond))
+		if why := k.suspect(now.Add(row.borne - time.Millisecond)); why != "" {
+			t.Errorf("%s, before %v: %q", row.name, row.borne, why)
+		}
+		hear(now.Add(row.borne + time.Millisecond))
+		if why := k.suspect(now.Add(row.borne + time.Millisecond)); !strings.HasPrefix(why, row.why) {
+			t.Errorf("%s, after %v: %q", row.name, row.borne, why)
+		}
+	}
+}
+
+// A machine that is silent is suspected after a second; but not for a silence in which this keeper was away itself.
+func TestSilence(t *testing.T) {
+	now := time.Now()
+	k := world(now)
+	k.machines["m0"].heard = now.Add(-999 * time.Millisecond)
+	if why := k.suspect(now); why != "" {
+		t.Error(why)
+	}
+	k.machines["m0"].heard = now.Add(-1001 * time.Millisecond)
+	if why := k.suspect(now); !strings.Contains(why, "silent") {
+		t.Errorf("%q", why)
+	}
+	k.reset(now)
+	if why := k.suspect(now); why != "" {
+		t.Error(why)
+	}
+	if why := k.suspect(now.Add(1001 * time.Millisecond)); !strings.Contains(why, "silent") {
+		t.Errorf("%q", why)
+	}
+}
+
+// Only the keeper with the lowest number that is heard begins; what no state names may go.
+func TestFirstAndLast(t *testing.T) {
+	now := time.Now()
+	k := world(now)
+	k.keepers[9] = now
+	if !k.isFirst(now) {
+		t.Error("keeper 3 waits for keeper 9")
+	}
+	k.keepers[2] = now.Add(-time.Second)
+	if k.isFirst(now) || !k.isFirst(now.Add(2*time.Second)) {
+		t.Error("keeper 3 does not wait for keeper 2, or for ever")
+	}
+	gens := []wire.Generation{{Epoch: 513}, {Epoch: 1025}}
+	k.newest = &wire.Epoch{Epoch: 1025, State: wire.State{Gens: gens, Dropped: 1}}
+	rows := map[string]string{"log-257-0": "drop", "log-513-0": "", "log-769-0": "drop", "log-1025-0": "", "log-1281-0": "",
+		"sequencer-513": "end", "sequencer-1025": "", "proxy-769-1": "end", "recoverer-769": "end", "recoverer-1025": "",
+		"recoverer-1281": "", "cell-0": "", "storage-0": ""}
+	for token, wanted := range rows {
+		name, _ := names.Parse(token)
+		if found := k.mayGo(name, &wire.NodeView{Recovery: &wire.Recovery{}}); found != wanted {
+			t.Errorf("%s: %q, wanted %q", token, found, wanted)
+		}
+	}
+	if k.mayGo(names.Node{Kind: "recoverer", First: 1025}, &wire.NodeView{Recovery: &wire.Recovery{IsMarked: true}}) != "end" {
+		t.Error("a recoverer whose marks are held stays")
+	}
+}

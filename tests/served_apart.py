@@ -1,0 +1,258 @@
+"""What tests/service looks at apart from its seeds: configurations, folders, strange messages, other clusters,
+deadlines, pages for machines."""
+
+import json
+import os
+import re
+import shutil
+import socket
+import subprocess
+import tempfile
+import time
+import urllib.error
+import urllib.request
+
+import served
+
+# a text of the configuration that dev writes, what stands in its place, and how the refusal begins behind the path
+REFUSED = (
+    ("logs = 4", "logs = 40", ":4: logs: found 40, wanted a number from 1 to 16"),
+    ("logs = 4", "logs = 6", ":4: logs: found 6, wanted at most one a machine, and there are 5"),
+    ("degree = 2", 'degree = "2"', ':5: degree: found "2", wanted a number from 1 to 16'),
+    ("degree = 2", "degre = 2", ":5: there is no key degre here; cluster, node,"),
+    ('cluster = "dev"', 'cluster = "d.v"', ':1: cluster: found "d.v", wanted a name'),
+    ('"6d"]', '"6d"', ":9: found"),
+    ("coordinators = 3", "coordinators = 2", ":3: coordinators: found 2, wanted 1, 3, 5, 7 or 9"),
+    ("[nats]", "[nat]", ":9: there is no table [nat]"),
+)
+AGENT, KEEPER = ("agent", "--machine", "m0"), ("keeper", "--number", "1")
+
+
+class Raw:
+    """A client of the broker that says whatever it is given."""
+
+    def __init__(self, port):
+        self.it = socket.create_connection(("127.0.0.1", port), timeout=10)
+        self.it.recv(4096)
+        self.it.sendall(b'CONNECT {"verbose":false,"pedantic":false}\r\n')
+
+    def say(self, subject, data):
+        self.it.sendall(f"PUB {subject} {len(data)}\r\n".encode() + data + b"\r\n")
+
+    def close(self):
+        self.it.sendall(b"PING\r\n")
+        self.it.recv(4096)
+        self.it.close()
+
+
+def all_of(checks):
+    room = tempfile.mkdtemp(prefix="service-apart-")
+    try:
+        configurations(checks, f"{room}/a")
+        no_broker(checks, f"{room}/b")
+        running(checks, f"{room}/c")
+    finally:
+        shutil.rmtree(room)
+
+
+def said(*words, **how):
+    return subprocess.run([served.SERVICE, *words], capture_output=True, text=True, timeout=60, **how)
+
+
+def configurations(checks, room):
+    """A file that is wrong: status 2, one line with file and line, and nothing is made."""
+    said("dev", room, "--write", "--node", served.node_words())
+    path = f"{room}/service.toml"
+    with open(path, encoding="utf-8") as it:
+        good = it.read()
+    for old, new, wanted in REFUSED:
+        checks.check(old in good, "the row of", old, "changes nothing")
+        with open(path, "w", encoding="utf-8") as it:
+            it.write(good.replace(old, new, 1))
+        for words in (AGENT, KEEPER, ("init", "--machine", "m0"), ("status",)):
+            ran = said(*words, "--config", path)
+            is_so = ran.returncode == 2 and ran.stderr.startswith(path + wanted) and ran.stderr.count("\n") == 1
+            checks.check(is_so and not ran.stdout, words, new, ran.returncode, ran.stdout, ran.stderr)
+        checks.check(not os.path.exists(f"{room}/m0"), new, "makes something")
+    with open(path, "w", encoding="utf-8") as it:
+        it.write(good)
+    for words, status in (((), 2), (("nothing",), 2), (("--help",), 0), (("get", "a"), 2), (("put", "a"), 2),
+                          (("get", "--huh"), 2), (("agent", "--machine", "m9", "--config", path), 2),
+                          (("keeper", "--number", "7", "--config", path), 2), (("get", "a", "--config", "/no/file"), 2),
+                          (("init", "--machine", "m0", "--config", path), 0),
+                          (("init", "--machine", "m0", "--config", path), 3),
+                          (("agent", "--machine", "m1", "--config", path), 3),
+                          (("keeper", "--number", "1", "--config", path), 3),
+                          (("init", "--number", "1", "--config", path), 0),
+                          (("init", "--number", "1", "--config", path), 3), (("journals", f"{room}/m1"), 1),
+                          (("bench", "--seconds", "1", "--clients", "0", "--config", path), 2)):
+        ran = said(*words, env={key: its for key, its in os.environ.items() if key != "FDBREC_CONFIG"})
+        is_so = ran.returncode == status and "panic" not in ran.stderr and (ran.stderr or status == 0)
+        checks.check(is_so, words, ran.returncode, ran.stderr[-300:])
+    # a folder of another machine, or with other coordinators than it began with
+    os.rename(f"{room}/m0", f"{room}/m1")
+    ran = said("agent", "--machine", "m1", "--config", path)
+    checks.check(ran.returncode == 3 and "is of machine m0 of cluster dev" in ran.stderr, ran.returncode, ran.stderr)
+
+
+def no_broker(checks, room):
+    """A client without a cluster: an error within its deadline."""
+    said("dev", room, "--write", "--node", served.node_words())
+    for words in (("put", "a", "b"), ("get", "a"), ("get", "a", "--settled")):
+        began = time.monotonic()
+        ran = said(*words, "--config", f"{room}/service.toml", "--within", "800ms")
+        took = time.monotonic() - began
+        is_so = ran.returncode == 1 and "the cluster does not answer" in ran.stderr and took < 5
+        checks.check(is_so, words, ran.returncode, ran.stderr, took)
+
+
+def running(checks, room):
+    cluster = served.Cluster(room)
+    port = served.free_port()
+    with open(cluster.config, encoding="utf-8") as it:
+        text = it.read()
+    with open(cluster.config, "w", encoding="utf-8") as it:
+        it.write(text.replace('name = "m0"\n', f'name = "m0"\nhttp = "127.0.0.1:{port}"\n'))
+    try:
+        cluster.start_all()
+        checks.check(cluster.comes(60) is not None, "it begins:", cluster.last.stderr)
+        strange(checks, cluster)
+        others(checks, cluster)
+        values(checks, cluster)
+        pages(checks, port)
+        in_use(checks, cluster)
+        early(checks, cluster)
+        lost_file(checks, cluster)
+        cluster.stop()
+        line, why, _ = cluster.audit()
+        checks.check(line == "audit ok", line, why)
+    finally:
+        cluster.drop()
+
+
+def strange(checks, cluster):
+    """Messages that are none of ours, or of a node whom the subject does not allow, are counted and dropped."""
+    with open(cluster.config, encoding="utf-8") as it:
+        raw = Raw(int(re.search(r"nats://127.0.0.1:(\d+)", it.read())[1]))
+    lock = {"log": {"lock": {"epoch": 257}}}
+    message = {"type": "ask", "at": 1, "newest": 257, "from": {"recoverer": {"ballot": 99999}}, "ask": lock}
+    far = message | {"at": 2**39 * 2 - 1}
+    by_proxy = message | {"from": {"cell": {"index": 0}}}
+    pop = {"log": {"pop": {"epoch": 257, "tag": 0, "through": 0}}}
+    forged = message | {"from": {"storage": {"tag": 0}}, "ask": pop}
+    texts = [b"", b"{", b"[]", b'"x"', b"\xff\xfe", b"[" * 100000, b"1" * 1000, b"null"]
+    texts += [json.dumps(it).encode() for it in (far, by_proxy, forged, message | {"type": "submit"})]
+    before = counts(cluster)
+    for text in texts:
+        raw.say("fdbrec.dev.node.log-257-0.m1", text)
+        raw.say("fdbrec.dev.agent.m0.m1", text)
+    raw.close()
+    drop = {"do": "drop", "node": {"log": {"epoch": 257, "index": 0}}, "at": 1}
+    raw = Raw(raw_port(cluster))
+    raw.say("fdbrec.dev.agent.m0.m1", json.dumps(drop).encode())
+    raw.close()
+    ends = time.monotonic() + 10
+    while counts(cluster) < before + len(texts) and time.monotonic() < ends:
+        time.sleep(0.2)
+    more = counts(cluster) - before
+    checks.check(more >= 2 * len(texts), "strange messages that were counted:", more, "of", 2 * len(texts) + 1)
+    checks.check(cluster.comes(10) is not None, "it goes on:", cluster.last.stderr)
+
+
+def raw_port(cluster):
+    with open(cluster.config, encoding="utf-8") as it:
+        return int(re.search(r"nats://127.0.0.1:(\d+)", it.read())[1])
+
+
+def counts(cluster):
+    return cluster.standing()["machines"]["m0"]["counts"].get("messages that are none of ours", 0)
+
+
+def others(checks, cluster):
+    """A cluster of another name on the same broker hears nothing of this one."""
+    with open(cluster.config, encoding="utf-8") as it:
+        text = it.read()
+    path = f"{cluster.room}/other.toml"
+    with open(path, "w", encoding="utf-8") as it:
+        it.write(text.replace('cluster = "dev"', 'cluster = "other"'))
+    ran = said("put", "a", "b", "--config", path, "--within", "1s")
+    checks.check(ran.returncode == 1 and "the cluster does not answer" in ran.stderr, ran.returncode, ran.stderr)
+    ran = said("status", "--config", path)
+    checks.check(ran.returncode == 1 and "no machine answers" in ran.stderr, ran.returncode, ran.stderr)
+
+
+def values(checks, cluster):
+    """What a client reads is what was put, changed and cleared."""
+    for words, wanted in (
+        (("put", "a", "one"), "committed"), (("get", "a"), "one\n"), (("put", "z", "two"), "committed"),
+        (("get", "z"), "two\n"), (("clear", "a"), "committed"), (("get", "a"), "none\n"), (("get", "z"), "two\n"),
+        (("add", "n", "258"), "committed"), (("get", "6e", "--hex"), "0201000000000000\n"),
+        (("add", "n", "-1"), "committed"), (("get", "6e", "--hex"), "0101000000000000\n"),
+        (("put", "7a", "ff00", "--hex"), "committed"), (("get", "7a", "--hex"), "ff00\n"),
+        (("clear", "b", "zz"), "committed"), (("get", "z"), "none\n"),
+    ):
+        ran = cluster.run(*words, "--within", "20s")
+        checks.check(ran.stdout.startswith(wanted), words, "gives", ran.stdout, ran.stderr, "wanted", wanted)
+    ran = cluster.run("put", "k" * 10001, "v")
+    checks.check(ran.returncode == 1 and "a key has more than 10000 bytes" in ran.stderr, ran.returncode, ran.stderr)
+
+
+def pages(checks, port):
+    text = fetch(port, "metrics")
+    for wanted in ("fdbrec_epoch ", 'fdbrec_node_up{node="cell-0"} 1', 'fdbrec_log_durable{node="log-257-0"} ',
+                   "# TYPE fdbrec_messages_sent_total counter", "fdbrec_free_bytes "):
+        checks.check(wanted in text, "/metrics lacks", wanted)
+    checks.check(fetch(port, "healthz") == "ok\n", "/healthz says", fetch(port, "healthz"))
+
+
+def fetch(port, page):
+    try:
+        with urllib.request.urlopen(f"http://127.0.0.1:{port}/{page}", timeout=10) as it:
+            return it.read().decode()
+    except urllib.error.HTTPError as why:
+        return f"{why.code} {why.read().decode()}"
+
+
+def in_use(checks, cluster):
+    """A second agent, and a second keeper, over the same folder."""
+    for words in (AGENT, KEEPER):
+        ran = cluster.run(*words)
+        checks.check(ran.returncode == 3 and "is in use by another" in ran.stderr, words, ran.returncode, ran.stderr)
+
+
+def early(checks, cluster):
+    """Nodes that are started before anybody rests on them, as those of a recovery that comes to nothing, are killed
+    with their agent: they are nobody's, and enter no crash. (The audit at the end would name them.)"""
+    raw, epoch = Raw(raw_port(cluster)), 390 * 256 + 9
+    for node in ({"log": {"epoch": epoch, "index": 0}}, {"sequencer": {"epoch": epoch}}):
+        order = {"do": "start", "node": node, "logs": 4, "degree": 2, "last": 9, "known": 7, "at": 1}
+        raw.say("fdbrec.dev.agent.m2.keeper-9", json.dumps(order).encode())
+    raw.close()
+    is_up = lambda: [name for name in cluster.node_pids() if f"m2 log --epoch {epoch}" in name]
+    for _ in range(2):
+        ends = time.monotonic() + 30
+        while not is_up() and time.monotonic() < ends:
+            time.sleep(0.2)
+        checks.check(is_up(), "the log that was ordered runs")
+        time.sleep(1)
+        cluster.kill("m2")
+        cluster.start("m2")
+    checks.check(cluster.comes(60) is not None, "it goes on after two kills of m2:", cluster.last.stderr)
+
+
+def lost_file(checks, cluster):
+    """A node whose file is missing is not started as a new one."""
+    cluster.its["m1"].terminate()
+    cluster.its["m1"].wait()
+    away = [name for name in os.listdir(f"{cluster.room}/m1/files") if name.startswith("cell-1")]
+    for name in away:
+        os.rename(f"{cluster.room}/m1/files/{name}", f"{cluster.room}/{name}")
+    cluster.start("m1")
+    ends, why = time.monotonic() + 30, ""
+    while "its files are missing" not in why and time.monotonic() < ends:
+        time.sleep(0.3)
+        why = cluster.standing()["machines"].get("m1", {}).get("nodes", {}).get("cell-1", {}).get("why", "")
+    checks.check("its files are missing" in why, "cell 1 without its file:", why)
+    for name in away:
+        os.rename(f"{cluster.room}/{name}", f"{cluster.room}/m1/files/{name}")
+    checks.check(cluster.comes(60) is not None, "it goes on once the file is back:", cluster.last.stderr)
