@@ -14,22 +14,25 @@ from fdbrec.scripts import quick, schemas
 from tests import runs
 
 FOLDER = os.path.dirname(os.path.dirname(os.path.realpath(__file__)))
-CONFIG = json.dumps({"config": runs.CONFIG})
-
-
-def lines_of(script):
-    """The lines of each node, by its kind."""
-    found = {}
-    for journal in script["journals"]:
-        node = journal["node"]
-        (kind,) = node
-        found[kind] = [json.dumps({**entry, "node": node}) for entry in journal["entries"]]
-        found[kind].append(json.dumps({"last": journal["last"], "node": node}))
-    return found
 
 
 class Lines(unittest.TestCase):
+    """Lines as `json` writes them, with blanks and members in any order."""
+
+    blank, dump = " ", staticmethod(json.dumps)
+
+    def lines_of(self, script):
+        """The lines of each node, by its kind."""
+        found = {}
+        for journal in script["journals"]:
+            node = journal["node"]
+            (kind,) = node
+            found[kind] = [self.dump({**entry, "node": node}) for entry in journal["entries"]]
+            found[kind].append(self.dump({"last": journal["last"], "node": node}))
+        return found
+
     def setUp(self):
+        self.config = self.dump({"config": runs.CONFIG})
         self.room = tempfile.TemporaryDirectory()
         self.addCleanup(self.room.cleanup)
 
@@ -45,44 +48,59 @@ class Lines(unittest.TestCase):
         return it.returncode, it.stdout.decode(), it.stderr.decode()
 
     def test_lines_of_all_nodes_are_judged_as_a_script_is(self):
-        lines = [CONFIG, *(line for its in lines_of(runs.script()).values() for line in its)]
+        lines = [self.config, *(line for its in self.lines_of(runs.script()).values() for line in its)]
         self.assertEqual(self.judge(given="\n".join(lines).encode()), (0, "audit ok\n", ""))
         self.assertEqual(self.judge(given=gzip.compress("\n".join(lines).encode())), (0, "audit ok\n", ""))
 
     def test_each_node_may_have_a_file(self):
-        found = lines_of(runs.script())
-        files = [self.file(kind, "\n".join([CONFIG, *its, ""])) for kind, its in found.items()]
+        found = self.lines_of(runs.script())
+        files = [self.file(kind, "\n".join([self.config, *its, ""])) for kind, its in found.items()]
         self.assertEqual(self.judge(*files), (0, "audit ok\n", ""))
-        found["sequencer"][0] = found["sequencer"][0].replace('"version": 2', '"version": 3')
-        self.file("sequencer", "\n".join([CONFIG, *found["sequencer"]]))
+        found["sequencer"][0] = found["sequencer"][0].replace(f'version":{self.blank}2', 'version":3')
+        self.file("sequencer", "\n".join([self.config, *found["sequencer"]]))
         status, line, _ = self.judge(*files)
         self.assertEqual((status, line), (1, "tell differs at 1\n"))
 
     def test_a_journal_that_is_not_closed_is_named(self):
-        found = lines_of(runs.script())
-        lines = [CONFIG, *(line for its in found.values() for line in its[:-1])]
+        found = self.lines_of(runs.script())
+        lines = [self.config, *(line for its in found.values() for line in its[:-1])]
         status, line, why = self.judge(given="\n".join(lines).encode())
         self.assertEqual((status, line), (1, "state differs at log 257 0\n"))
         self.assertIn("its journal was not closed", why)
 
     def test_bad_lines_are_named(self):
-        proxy = lines_of(runs.script())["proxy"]
-        other = CONFIG.replace('"logs": 1', '"logs": 2')
+        proxy = self.lines_of(runs.script())["proxy"]
+        it = self.blank
+        other = self.config.replace(f'"logs":{it}1', '"logs":2')
         rows = (
-            ([CONFIG, proxy[0].replace('stamp": 1', 'stamp": "1"')], 'line 2: stamp: found "1", wanted a number'),
-            ([CONFIG, proxy[0].replace('step": 1', 'step": 0')], "line 2: act.submitted.step: found 0, wanted"),
-            ([CONFIG, proxy[1], proxy[0]], "line 3: stamp: found 1, wanted a number above 3"),
-            ([CONFIG, proxy[3], proxy[0]], "line 3: found an entry of"),
-            ([CONFIG, proxy[3], proxy[3]], "line 3: found a second last state of"),
-            ([CONFIG, proxy[0], "{"], "line 3: found the end of the script, which is no JSON here"),
-            ([CONFIG, proxy[0], "[]"], "line 3: found an array, wanted an object of config, of act, node, stamp"),
-            ([CONFIG, proxy[0], other], "line 3: config: found another one than before"),
+            ([self.config, proxy[0].replace(f'stamp":{it}1', 'stamp":"1"')], 'line 2: stamp: found "1", wanted a'),
+            ([self.config, proxy[0].replace(f'step":{it}1', 'step":0')], "line 2: act.submitted.step: found 0, wanted"),
+            ([self.config, proxy[1], proxy[0]], "line 3: stamp: found 1, wanted a number above 3"),
+            ([self.config, proxy[3], proxy[0]], "line 3: found an entry of"),
+            ([self.config, proxy[3], proxy[3]], "line 3: found a second last state of"),
+            ([self.config, proxy[0], "{"], "line 3: found the end of the script, which is no JSON here"),
+            ([self.config, proxy[0], "[]"], "line 3: found an array, wanted an object of config, of act, node, stamp"),
+            ([self.config, proxy[0], other], "line 3: config: found another one than before"),
             (proxy, "no line has the config"),
         )
         for lines, says in rows:
             status, said, why = self.judge(given="\n".join(lines).encode())
             self.assertEqual((status, said), (2, ""), lines)
             self.assertTrue(re.sub(r", column \d+", "", why).startswith(f"bad script: {says}"), (says, why))
+
+    def test_a_bad_line_is_named_also_where_the_rest_is_a_run_or_has_a_fault(self):
+        it = self.blank
+        whole = [self.config, *(line for its in self.lines_of(runs.script()).values() for line in its)]
+        # (of the log two entries)
+        swapped = [*whole[:7], whole[8], whole[7], *whole[9:]]
+        more = [whole[0], whole[1].replace(f'step":{it}1', f'step":{it}1,"z":0'), *whole[2:]]
+        faulty = [line.replace(f'outcome":{it}null', f'outcome":{it}null,"z":0') for line in whole]
+        faulty[5] = faulty[5].replace(f'version":{it}2', f'version":{it}3')  # (of the sequencer)
+        rows = ((swapped, "stamp: found 4, wanted a number above 6"), (more, 'found "z"'), (faulty, 'found "z"'))
+        for lines, says in rows:
+            status, said, why = self.judge(given="\n".join(lines).encode())
+            self.assertEqual((status, said), (2, ""))
+            self.assertIn(says, why)
 
     def test_reports(self):
         good = self.file("run.json", json.dumps(runs.script()))
@@ -117,6 +135,13 @@ class Lines(unittest.TestCase):
         status, _, why = self.judge(half)
         self.assertEqual(status, 4)
         self.assertIn("half.gz: it is no whole file of gzip", why)
+
+
+class Compact(Lines):
+    """Lines without blanks, with their members in order: these are read in less time."""
+
+    blank = ""
+    dump = staticmethod(json.JSONEncoder(sort_keys=True, separators=(",", ":")).encode)
 
 
 class Quick(unittest.TestCase):

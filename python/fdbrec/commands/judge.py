@@ -61,22 +61,35 @@ def parsed(words):
     return files or ["-"], report
 
 
-def journals_of(files, progress):
-    """The journals that files have."""
+def taken(files, progress):
+    """The journals that files have, and the verdict on them. Lines are looked at as they are judged, which is quicker;
+    where one is bad, or there is a fault, all are looked at before anything is said."""
     contents = [(path, ending.content(path)) for path in files]
-    if len(contents) > 1 or collected.are_lines(contents[0][1]):
-        heed = lambda count: progress.show(f"{count:,} lines are read")
-        return collected.Journals().lines(contents, heed)
-    return collected.Journals().script(ending.script_of("audit", contents[0][1]))
+    if len(contents) == 1 and not collected.are_lines(contents[0][1]):
+        journals = collected.Journals().script(ending.script_of("audit", contents[0][1]))
+        return journals, verdict_of(journals, progress)
+    heed = lambda count: progress.show(f"{count:,} lines are read")
+    try:
+        journals = collected.Journals().late_lines(contents, heed)
+        verdict = verdict_of(journals, progress)
+        if verdict.line == "audit ok":
+            return journals, verdict
+    except collected.BadScript:
+        pass
+    journals = collected.Journals().lines(contents, heed)
+    return journals, verdict_of(journals, progress)
+
+
+def verdict_of(journals, progress):
+    count = len(journals.stamps)
+    return judging.verdict_of(journals, lambda at: progress.show(f"{at:,} of {count:,} entries are judged"))
 
 
 def judged(files, report, progress):
     """The verdict on the journals of files. A report has it too, also where they are no script."""
     journals, began = None, time.monotonic()
     try:
-        journals = journals_of(files, progress)
-        count = len(journals.stamps)
-        verdict = judging.verdict_of(journals, lambda at: progress.show(f"{at:,} of {count:,} entries are judged"))
+        journals, verdict = taken(files, progress)
     except collected.BadScript as why:
         progress.end()
         if report:

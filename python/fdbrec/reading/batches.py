@@ -156,7 +156,7 @@ def state_in(it):
 
 
 def json_of(state):
-    items = [{"epoch": e, "first": f, "k": k, "m": m, "seeded_to": s} for e, m, k, f, s in state]
+    items = [{"epoch": e, "m": m, "k": k, "first": f, "seeded_to": s} for e, m, k, f, s in state]
     return {"dropped": state.dropped, "gens": items} if state.dropped else items
 
 

@@ -80,6 +80,8 @@ class Trial(Events):
         super().__init__(config)
         self.given, self.told = set(), set()
         self.up = {}  # nodes that were found up
+        for log in self.nodes.logs.values():
+            log.mark = ordered(log.mark)
         self.rows = [Contents(shard) for shard in self.nodes.shards]
 
     def find(self, name):
@@ -98,8 +100,8 @@ class Trial(Events):
 
     def give(self, name):
         """A node gives what it now asks; what it asked before it may give again."""
-        by = who(name)
-        self.given.update(key_of(by, who(to), ask) for to, ask in self.pending(name))
+        by, each = who(name), ordered if "recoverer" in name else lambda ask: ask
+        self.given.update(key_of(by, who(to), each(ask)) for to, ask in self.pending(name))
 
     def known(self, messages, by, to, what):
         """A message that is among these, in the order of its members' names. Most have that order."""

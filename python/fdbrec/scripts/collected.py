@@ -9,6 +9,7 @@ A line is one object, of three kinds:
 """
 import array
 import json
+import re
 
 from . import forms, places, quick, schemas, values
 
@@ -16,6 +17,8 @@ KINDS = ("cell", "log", "sequencer", "proxy", "recoverer", "storage")
 READ = json.JSONDecoder().decode
 ENCODE = json.JSONEncoder(sort_keys=True, separators=(",", ":")).encode
 REF = "audit.json#/$defs/"
+# the end of an entry's line: its node and its stamp
+TAIL = re.compile(rb',"node":(\{"[a-z]{1,9}":\{[a-z0-9":,]{1,80}\}\}),"stamp":([0-9]{1,13})\}\s*\Z')
 # a kind of line: the member by which it is known, its form, and what its members are of
 LINES = (
     ("config", forms.members(config=forms.CONFIG), {"config": "common.json#/$defs/config"}),
@@ -39,10 +42,11 @@ def place_of(name):
 
 class Journals:
     """Config, journals with their nodes and last states, and entries: of each its stamp, the number of its journal and
-    its act; of lines the text that has it, since values take ten times the room."""
+    its act; of lines the text of the act, since values take ten times the room. `is_late` says that such texts are
+    looked at when they are taken: what is bad is then known late, and where, `lines` says."""
 
     def __init__(self):
-        self.config, self.names, self.lasts = None, [], []
+        self.config, self.names, self.lasts, self.is_late = None, [], [], False
         self.known, self.newest = {}, []  # of lines: the journal of a node; its newest stamp, or None if it is closed
         self.stamps, self.owners, self.acts = array.array("q"), array.array("l"), []
 
@@ -87,7 +91,17 @@ class Journals:
     def act(self, number):
         """The act of an entry."""
         act = self.acts[number]
-        return act if isinstance(act, dict) else READ(act.decode())["act"]
+        if isinstance(act, dict):
+            return act
+        if not self.is_late:
+            return READ(act.decode())
+        try:
+            value = schemas.read(act)
+        except schemas.Bad as why:
+            raise BadScript(str(why)) from None
+        if not quick.is_of(value, REF + "act"):
+            raise BadScript("an act of another form")
+        return value
 
     # ---- lines
 
@@ -107,33 +121,60 @@ class Journals:
         if not is_of or type(stamp) is not int or not 0 <= stamp < 2**40:
             together = f"line {number}, column 1: found an object{places.NOT_TOGETHER}"
             raise BadScript(where + (places.said_by(form, data, number) or together))
-        lack = getattr(self, f"take_{kind}")(value, data)
+        lack = getattr(self, f"take_{kind}")(value)
         if lack:
             raise BadScript(f"{where}line {number}: {lack}")
 
-    def take_config(self, value, _):
+    def take_config(self, value):
         if self.config is not None and value["config"] != self.config:
             return "config: found another one than before"
         self.config = value["config"]
         return None
 
-    def take_act(self, value, data):
+    def take_act(self, value):
         owner, stamp = self.node(value["node"]), value["stamp"]
         if self.newest[owner] is None:
             return f"found an entry of {ENCODE(value['node'])} behind its last state"
         if stamp <= self.newest[owner]:
             return f"stamp: found {stamp}, wanted a number above {self.newest[owner]}"
         self.newest[owner] = stamp
-        self.enter(owner, stamp, data)
+        self.enter(owner, stamp, ENCODE(value["act"]).encode())
         return None
 
-    def take_last(self, value, _):
+    def take_last(self, value):
         owner = self.node(value["node"])
         if self.newest[owner] is None:
             return f"found a second last state of {ENCODE(value['node'])}"
         self.newest[owner], self.lasts[owner] = None, value["last"]
         return None
 
+
+    def late_lines(self, files, heed):
+        """The same as `lines`, of lines whose members stand in order; the form of acts is looked at late."""
+        self.is_late, count, owners = True, 0, {}
+        for _, data in files:
+            for line in data.split(b"\n"):
+                count += 1
+                if count % 10_000 == 0:
+                    heed(count)
+                found = TAIL.search(line, max(0, len(line) - 200)) if line.startswith(b'{"act":') else None
+                if not found:
+                    if line.strip():
+                        self.line(line, count, "")
+                    continue
+                if found[1] not in owners:
+                    node = json.loads(found[1].decode())
+                    if not quick.is_of(node, REF + "node"):
+                        raise BadScript("a node of another form")
+                    owners[found[1]] = self.node(node)
+                owner, stamp = owners[found[1]], int(found[2])
+                if self.newest[owner] is None or stamp <= self.newest[owner] or stamp >= 2**40:
+                    raise BadScript("a stamp that does not rise, or an entry behind a last state")
+                self.newest[owner] = stamp
+                self.enter(owner, stamp, line[7 : found.start()])
+        if self.config is None:
+            raise BadScript("no line has the config")
+        return self
 
     def lines(self, files, heed):
         """Takes files of lines, each a name and its bytes; `heed` is told now and then how many lines are taken."""
