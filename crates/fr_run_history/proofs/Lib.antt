@@ -1,0 +1,10 @@
+pub mod Coming
+pub mod Numbered
+pub mod RealTime
+pub mod Acts
+pub mod History
+pub mod Items
+pub mod Names
+pub mod Reaching
+pub mod Refining
+pub mod Late

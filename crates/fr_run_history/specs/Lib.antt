@@ -1,0 +1,5 @@
+pub mod RealTime
+pub mod History
+pub mod Machine
+pub mod Refines
+pub mod Example
