@@ -103,7 +103,8 @@ fn copied(
         return Err(ErrorKind::InvalidData.into());
     }
     let pages = whole(alloc, db)?;
-    if whole_of(alloc, log)? != frames || whole(alloc, db)? != pages {
+    let (later_frames, later_pages) = (whole_of(alloc, log)?, whole(alloc, db)?);
+    if later_frames != frames || later_pages != pages {
         return Ok(None);
     }
     Ok(Some(files_of(frames, pages)))
