@@ -111,9 +111,13 @@ def each(numbers, jobs, does):
 # ---- how a run ended: "same", "wanted" (memory), or else what is wrong with it
 
 
+# what is said of operations that are refused, before a run ends
+REFUSALS = re.compile(rb"(?:ops\[[0-9]+\]: [^\n]*\n)*")
+
+
 def of_program(ended, first):
     if ended.status == 3:
-        if ended.complained != b"out of memory\n":
+        if ended.complained[REFUSALS.match(ended.complained).end() :] != b"out of memory\n":
             return f"status 3, and it says {ended.complained[:200]}"
         return "wanted" if first.said.startswith(ended.said) else "status 3, and other lines"
     is_same = (ended.status, ended.said, ended.complained) == (first.status, first.said, first.complained)
@@ -122,7 +126,7 @@ def of_program(ended, first):
 
 def of_files(ended, first):
     """A store in files that is refused memory, and again where it is asked whether it works, may be told as failed."""
-    is_failed = ended.status == 3 and ended.complained == b"store failed\n"
+    is_failed = ended.status == 3 and b"store failed: " in ended.complained
     return "wanted" if is_failed and first.said.startswith(ended.said) else of_program(ended, first)
 
 

@@ -18,46 +18,63 @@ class Refused(Exception):
         self.text, self.status = text, status
 
 
+def quoted(name):
+    """A name as the program writes it, in quotes, with what cannot be seen escaped."""
+    plain = {"\0": "\\0", "\t": "\\t", "\n": "\\n", "\r": "\\r", '"': '\\"', "\\": "\\\\"}
+    seen = (plain.get(it) or (it if it.isprintable() else f"\\u{{{ord(it):x}}}") for it in name)
+    return '"' + "".join(seen) + '"'
+
+
 def unopened(name, why):
-    return Refused(f"store not opened: {name}: {why}", 2)
+    return Refused(f"store not opened: {why}: {quoted(name)}", 2)
 
 
-def no_store(name, why):
-    return Refused(f"no store: {name}: {why}", 2)
+def no_store(name):
+    return Refused(f"no store: the file holds no database, or that of something else: {quoted(name)}", 2)
 
 
 def look_at_store(command, name):
-    """Refuses a name at which no store can be opened. A missing file is made by apply, and by it alone."""
-    folder = os.path.dirname(name) or "."
+    """Refuses a name at which no store can be opened, by the program's own words. A missing file is made by apply, and by
+    it alone. Where it is not sure, the program decides."""
     if not name:
-        raise unopened("''", "the name is empty")
-    if len(os.fsencode(os.path.basename(name))) > LONGEST - len("-wal"):
+        raise unopened(name, "the name is empty")
+    if len(os.fsencode(os.path.basename(name))) > LONGEST - len("-journal"):
         raise unopened(name, "the name is too long")
-    if not os.path.isdir(folder):
-        raise unopened(name, f"there is no folder {folder}")
     if not os.path.lexists(name):
-        if command == "rows":
-            raise unopened(name, "there is no such file")
-        if not os.access(folder, os.W_OK | os.X_OK):
-            raise unopened(name, f"no file can be made in {folder}: permission denied")
+        look_at_folder(command, name)
+    elif os.path.isdir(name):
+        raise unopened(name, "it is a folder")
+    elif os.path.isfile(name):
+        wanted = os.R_OK | (os.W_OK if command == "apply" else 0)
+        if not os.access(name, wanted):
+            raise unopened(name, "no right to read and write it" if command == "apply" else "no right to read it")
+        look_inside(command, name)
+    elif os.path.exists(name):
+        raise unopened(name, "it, or its log, is no plain file")
+
+
+def look_at_folder(command, name):
+    """Refuses the name of a file that is missing, where it cannot be made."""
+    folder = os.path.dirname(name) or "."
+    if os.path.lexists(f"{os.path.realpath(name)}-wal") or os.path.lexists(folder) and not os.path.isdir(folder):
         return
-    if os.path.isdir(name):
-        raise unopened(name, "it is a directory")
-    if not os.path.isfile(name):
-        raise unopened(name, "it is no plain file")
-    if not os.access(name, os.R_OK | (os.W_OK if command == "apply" else 0)):
-        raise unopened(name, "permission denied")
-    look_inside(command, name)
+    if command == "rows":
+        raise unopened(name, "there is no such file")
+    if not os.path.isdir(folder):
+        raise unopened(name, "its folder is missing")
+    if not os.access(folder, os.W_OK | os.X_OK):
+        raise unopened(name, "no right to make files in its folder")
 
 
 def look_inside(command, name):
     """Refuses a file that can be seen to hold no store."""
     with open(name, "rb") as it:
         head = it.read(len(HEAD))
-    if not head and command == "apply":
+    real = os.path.realpath(name)
+    if os.path.exists(f"{real}-wal") and os.path.getsize(f"{real}-wal") > 0 or not head and command == "apply":
         return
     if head != HEAD:
-        raise no_store(name, "the file holds no database")
+        raise no_store(name)
     import sqlite3  # (where it is wanted alone: it takes as long as all else)
 
     try:
@@ -66,9 +83,8 @@ def look_inside(command, name):
         its.close()
     except sqlite3.Error:
         return  # (the program says what is wrong with it)
-    has_log = os.path.exists(f"{name}-wal") and os.path.getsize(f"{name}-wal") > 0
-    if tables and tables != TABLES and not has_log:
-        raise no_store(name, "the file holds a database of something else")
+    if tables and tables != TABLES and not os.path.lexists(f"{real}-journal"):
+        raise no_store(name)
 
 
 def read_input():

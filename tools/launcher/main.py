@@ -81,7 +81,7 @@ def run_small(program, words, given=None):
         how = {"executable": program, "stderr": subprocess.PIPE, "preexec_fn": default_interrupt}
         ran = subprocess.run(["fdbrec", *words], **how)
         said = ran.stderr
-        if (ran.returncode, said) == (BAD, b"bad script\n"):
+        if ran.returncode == BAD and said.startswith(b"bad script\n"):
             os.lseek(0, begin, os.SEEK_SET)
             with open(0, "rb", closefd=False) as script:
                 said = doors.lack_of_script("apply", script.read()) or said

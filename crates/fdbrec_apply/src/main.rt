@@ -4,7 +4,7 @@
 
 mod program;
 
-use fr_cli_apply::{Ending, own_words};
+use fr_cli_apply::{Beginning, Causes, Ending, NotedReader, NotedWriter, own_words};
 use fr_cli_json::CliFault;
 use program::run_program;
 use std::io;
@@ -17,9 +17,25 @@ fn main(rt: HostRuntime) -> ExitCode {
         Ok(words) => words,
         Err(status) => return status,
     };
-    let Ok(mut writer) = BufWriter::new(alloc, io::writer(&rt)) else {
+    let Ok(writer) = BufWriter::new(alloc, io::writer(&rt)) else {
         return Ending::Fault(CliFault::Memory).say(&rt);
     };
-    let mut reader = rt.reader();
-    run_program(alloc, words.as_slice(), &mut reader, &mut writer).say(&rt)
+    let mut writer = NotedWriter::new(writer);
+    let mut reader = NotedReader::new(rt.reader());
+    let ending = run_program(&rt, alloc, words.as_slice(), &mut reader, &mut writer);
+    let causes = Causes {
+        beginning: reader.beginning(),
+        place: "",
+        input: reader.failure(),
+        output: writer.failure(),
+    };
+    let status = ending.say_why(&rt, &causes);
+    let is_bad = matches!(ending, Ending::Fault(CliFault::BadScript));
+    if is_bad && causes.beginning == Beginning::Text {
+        let _ = eprintln!(rt; "{TIP}");
+    }
+    status
 }
+
+/// What says where a script is bad: the table of forms stands above what this program is made of.
+const TIP: &str = "  tip: 'docs/schema/validate apply FILE' names the place";

@@ -1,14 +1,17 @@
 //! The program over its words, a reader and a writer.
 use clap::error::{Error, ErrorKind};
 use fr_cli_apply::{
-    ApplyOptions, Ending, StoreWord, apply_command, bad_words, program_command, read_store,
-    run_apply, show,
+    ApplyOptions, Ending, SaidRefusals, StoreWord, apply_command, apply_noted, bad_words,
+    program_command, read_store, show,
 };
+use fr_cli_json::CallCounts;
 use std::alloc::Global;
-use std::io::{Read, Write};
+use std::io::{Eprint, Read, Write};
 
-/// Runs a script on an empty store in memory, or shows what the words ask for.
-pub(crate) fn run_program<R: Read, W: Write>(
+/// Runs a script on an empty store in memory, or shows what the words ask for. Why operations are refused is said to
+/// `errors`.
+pub(crate) fn run_program<E: Eprint, R: Read, W: Write>(
+    errors: &E,
     alloc: Global,
     words: &[String],
     reader: &mut R,
@@ -18,7 +21,9 @@ pub(crate) fn run_program<R: Read, W: Write>(
         Ok(options) => options,
         Err(error) => return show(alloc, error, writer),
     };
-    match run_apply(alloc, options, reader, writer) {
+    let mut calls = CallCounts::new();
+    let mut notes = SaidRefusals::new(errors);
+    match apply_noted(alloc, options, &mut calls, &mut notes, reader, writer) {
         Ok(status) => Ending::Done(status),
         Err(fault) => Ending::Fault(fault),
     }

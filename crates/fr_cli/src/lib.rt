@@ -11,7 +11,7 @@ mod program;
 mod shapes;
 mod words;
 
-use fr_cli_apply::own_words;
+use fr_cli_apply::{Causes, NotedReader, NotedWriter, own_words};
 pub use fr_cli_apply::{ApplyOptions, BAD_WORDS, Ending, StoreWord, run_apply, run_apply_on};
 pub use fr_cli_apply_sql::{DbFault, FileFault, run_apply_db, run_apply_sql, run_rows_db};
 pub use fr_cli_audit::{Judged, run_audit};
@@ -35,10 +35,11 @@ pub fn run_main<H: Threads + Wait + Sync>(rt: &HostRuntime, threads: &H) -> Exit
         Ok(words) => words,
         Err(status) => return status,
     };
-    let Ok(mut writer) = BufWriter::new(alloc, io::writer(rt)) else {
+    let Ok(writer) = BufWriter::new(alloc, io::writer(rt)) else {
         return Ending::Fault(CliFault::Memory).say(rt);
     };
-    let mut reader = rt.reader();
+    let mut writer = NotedWriter::new(writer);
+    let mut reader = NotedReader::new(rt.reader());
     let errors = Errors {
         to: rt,
         is_terminal: rt.stderr().is_terminal(),
@@ -53,11 +54,11 @@ pub fn run_main<H: Threads + Wait + Sync>(rt: &HostRuntime, threads: &H) -> Exit
         &mut reader,
         &mut writer,
     );
-    match ending {
-        Ending::Fault(CliFault::BadScript) if !place.is_empty() => {
-            let _ = eprintln!(rt; "bad script: {place}");
-            ExitCode::from(CliFault::BadScript.status())
-        }
-        _ => ending.say(rt),
-    }
+    let causes = Causes {
+        beginning: reader.beginning(),
+        place: place.as_str(),
+        input: reader.failure(),
+        output: writer.failure(),
+    };
+    ending.say_why(rt, &causes)
 }

@@ -3,12 +3,13 @@ use crate::apply::apply_to;
 use crate::cluster::cluster_on;
 use crate::kept::{Kept, is_bad, operations, replies};
 use crate::words::{Request, read_words};
-use fr_cli_apply::{Ending, show};
-use fr_cli_apply_sql::{DbFault, run_apply_db, run_rows_db};
+use fr_cli_apply::{Ending, Notes, SaidRefusals, show};
+use fr_cli_apply_sql::{DbFault, FileFault, run_apply_db, run_rows_db};
 use fr_cli_audit::{Judged, audit_counted};
 use fr_cli_end::run_end;
 use fr_cli_json::{CallCounts, CliFault};
 use fr_cli_simulate::simulate_counted;
+use std::alloc::Global;
 use std::io::{Eprint, Read, Write};
 use std::sync::Wait;
 use std::thread::Threads;
@@ -39,11 +40,18 @@ pub fn run_program<H: Threads + Wait + Sync, E: Eprint + Sync, R: Read, W: Write
         Err(error) => return show(alloc, error, writer),
     };
     match request {
-        Request::ApplyTo(name) => apply_in_file(host, name.as_str(), place, reader, writer),
-        Request::Rows(name) => in_file(run_rows_db(host, alloc, name.as_str(), writer)),
+        Request::ApplyTo(name) => {
+            let mut notes = SaidRefusals::new(errors.to);
+            apply_in_file(host, name.as_str(), &mut notes, place, reader, writer)
+        }
+        Request::Rows(name) => {
+            let answer = run_rows_db(host, alloc, name.as_str(), writer);
+            in_file(alloc, name.as_str(), answer)
+        }
         Request::Apply(kind) => {
             let mut kept = Kept::new(alloc, reader);
-            let answer = apply_to(kind, alloc, &mut kept, writer);
+            let mut notes = SaidRefusals::new(errors.to);
+            let answer = apply_to(kind, alloc, &mut notes, &mut kept, writer);
             kept.explain(alloc, operations(), is_bad(answer), place);
             ending(answer)
         }
@@ -72,19 +80,20 @@ pub fn run_program<H: Threads + Wait + Sync, E: Eprint + Sync, R: Read, W: Write
 }
 
 /// Runs `apply` on a store in a file.
-fn apply_in_file<R: Read, W: Write>(
+fn apply_in_file<N: Notes, R: Read, W: Write>(
     host: &HostRuntime,
     name: &str,
+    notes: &mut N,
     place: &mut String,
     reader: &mut R,
     writer: &mut W,
 ) -> Ending {
     let alloc = host.alloc();
     let mut kept = Kept::new(alloc, reader);
-    let answer = run_apply_db(host, alloc, name, &mut kept, writer);
+    let answer = run_apply_db(host, alloc, name, notes, &mut kept, writer);
     let is_bad = matches!(answer, Err(DbFault::Command(CliFault::BadScript)));
     kept.explain(alloc, operations(), is_bad, place);
-    in_file(answer)
+    in_file(alloc, name, answer)
 }
 
 /// How a command ends.
@@ -119,11 +128,20 @@ fn cluster_ending(answer: Result<u8, CliFault>) -> Ending {
     }
 }
 
-/// How a command on a file ends.
-fn in_file(answer: Result<u8, DbFault>) -> Ending {
+/// How a command on the file of a name ends.
+fn in_file(alloc: Global, name: &str, answer: Result<u8, DbFault>) -> Ending {
     match answer {
         Ok(status) => Ending::Done(status),
         Err(DbFault::Command(fault)) => Ending::Fault(fault),
-        Err(DbFault::Files(fault)) => Ending::Named(fault.text(), fault.status()),
+        Err(DbFault::Files(fault)) => named(alloc, name, fault),
+    }
+}
+
+/// How a command ends that its file ended: the text of a fault, and the name of the file.
+fn named(alloc: Global, name: &str, fault: FileFault) -> Ending {
+    let text = fault.text();
+    match format!(in alloc; "{text}: {name:?}") {
+        Ok(told) => Ending::Told(told, fault.status()),
+        Err(_) => Ending::Named(text, fault.status()),
     }
 }

@@ -7,6 +7,7 @@ ghost use Rattle.fr_cli_apply.specs.Script.{script_of};
 ghost use Rattle.fr_cli_apply.specs.Lines.{lines_of, lines_from, left_by};
 
 use crate::operations::{run_in_memory, run_on};
+use crate::refusal::{Nobody, Notes};
 use crate::script::read_script;
 use fr_cli_json::{CallCounts, CliFault, read_input};
 use fr_undo::ShardStore;
@@ -58,7 +59,7 @@ pub fn run_apply_on<S: ShardStore, R: Read, W: Write>(
         × (S.state store.new ≡ left_by (S.state store.old) script)) }
 {
     let mut calls = CallCounts::new();
-    apply_counted_on(alloc, store, &mut calls, reader, writer)
+    apply_noted_on(alloc, store, &mut calls, &mut Nobody, reader, writer)
 }
 
 /// As [`run_apply`], with the calls of the reader and of the writer counted in `calls`, which has none yet. `Input` is
@@ -75,21 +76,39 @@ pub fn apply_counted<R: Read, W: Write>(
         W.contents writer.old writer.new result }
     ensures cause { HasCause calls.new result }
 {
+    apply_noted(alloc, options, calls, &mut Nobody, reader, writer)
+}
+
+/// As [`apply_counted`]. Of each operation `notes` hears that it was done, or why it was refused.
+pub fn apply_noted<N: Notes, R: Read, W: Write>(
+    alloc: Global,
+    options: ApplyOptions,
+    calls: &mut CallCounts,
+    notes: &mut N,
+    reader: &mut R,
+    writer: &mut W,
+) -> Result<u8, CliFault>
+    requires fresh { calls.old ≡ no_calls }
+    ensures prints { Prints script_of lines_of (R.remaining reader.old) (R.remaining reader.new)
+        W.contents writer.old writer.new result }
+    ensures cause { HasCause calls.new result }
+{
     let input = read_input(alloc, calls, reader)?;
     let script = read_script(alloc, input)?;
     match options.store {
-        StoreKind::Map => run_in_memory(alloc, script, calls, writer)?,
+        StoreKind::Map => run_in_memory(alloc, script, calls, notes, writer)?,
     }
     calls.flush(writer)?;
     Ok(0)
 }
 
-/// As [`apply_counted`], on a store in any state, which then holds what the operations left of it. What the store keeps
+/// As [`apply_noted`], on a store in any state, which then holds what the operations left of it. What the store keeps
 /// its rows in changes no line. Each line is flushed once its operation is done.
-pub fn apply_counted_on<S: ShardStore, R: Read, W: Write>(
+pub fn apply_noted_on<S: ShardStore, N: Notes, R: Read, W: Write>(
     alloc: Global,
     store: &mut S,
     calls: &mut CallCounts,
+    notes: &mut N,
     reader: &mut R,
     writer: &mut W,
 ) -> Result<u8, CliFault>
@@ -102,7 +121,7 @@ pub fn apply_counted_on<S: ShardStore, R: Read, W: Write>(
 {
     let bytes = read_input(alloc, calls, reader)?;
     let operations = read_script(alloc, bytes)?;
-    run_on(alloc, store, operations, calls, writer)?;
+    run_on(alloc, store, operations, calls, notes, writer)?;
     calls.flush(writer)?;
     Ok(0)
 }

@@ -4,18 +4,22 @@
 #![tactic(auto)]
 
 mod apply;
+mod causes;
 mod operations;
 mod plan;
 mod program;
+mod refusal;
 mod rows;
 mod script;
 mod words;
 
 pub use apply::{
-    ApplyOptions, StoreKind, apply_counted, apply_counted_on, run_apply, run_apply_on,
+    ApplyOptions, StoreKind, apply_counted, apply_noted, apply_noted_on, run_apply, run_apply_on,
 };
+pub use causes::{Beginning, Causes, NotedReader, NotedWriter};
 pub use operations::{ok_line, put_contents};
 pub use program::{BAD_WORDS, Ending, bad_words, own_words, program_command, show};
+pub use refusal::{Nobody, Notes, Refusal, SaidRefusals};
 pub use rows::put_rows;
 pub use script::Operation;
 pub use words::{

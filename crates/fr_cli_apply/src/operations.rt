@@ -9,6 +9,7 @@ ghost use Rattle.fr_cli_apply.specs.Plan.{plan_lines, plan_left, plan_outcome};
 ghost use Rattle.fr_cli_apply.specs.Lines.{ok_line, line_of as line_text, row_lines, state_after, name_in, name_of};
 
 use crate::plan::Planned;
+use crate::refusal::{Notes, Refusal, note_refusal};
 use crate::rows::{put_rows, put_tree};
 use fr_cli_json::{CallCounts, CliFault, put};
 use fr_undo::{MapStore, ShardStore, StoreFault};
@@ -16,10 +17,11 @@ use std::alloc::{AllocError, Global};
 use std::io::Write;
 
 /// Runs operations on an empty store in memory, and writes a line for each and then the rows.
-pub(crate) fn run_in_memory<W: Write>(
+pub(crate) fn run_in_memory<N: Notes, W: Write>(
     alloc: Global,
     operations: Vec<Planned>,
     calls: &mut CallCounts,
+    notes: &mut N,
     writer: &mut W,
 ) -> Result<(), CliFault>
     ensures ok { OnOk result (Appends (W.contents writer.old) (W.contents writer.new) (plan_lines fresh operations.items)) }
@@ -28,16 +30,25 @@ pub(crate) fn run_in_memory<W: Write>(
     ensures done { OnOk result (calls.new ≡ calls.old) }
 {
     let mut store = MapStore::new(alloc);
-    run_operations(alloc, &mut store, operations, Pace::Whole, calls, writer)?;
+    run_operations(
+        alloc,
+        &mut store,
+        operations,
+        Pace::Whole,
+        calls,
+        notes,
+        writer,
+    )?;
     put_tree(alloc, store.rows(), calls, writer)
 }
 
 /// Runs operations on a store, and writes a line for each, which it flushes before the next one, and then the rows.
-pub(crate) fn run_on<S: ShardStore, W: Write>(
+pub(crate) fn run_on<S: ShardStore, N: Notes, W: Write>(
     alloc: Global,
     store: &mut S,
     operations: Vec<Planned>,
     calls: &mut CallCounts,
+    notes: &mut N,
     writer: &mut W,
 ) -> Result<(), CliFault>
     ensures ok { OnOk result (Appends (W.contents writer.old) (W.contents writer.new) (plan_lines (S.state store.old) operations.items)) }
@@ -46,7 +57,7 @@ pub(crate) fn run_on<S: ShardStore, W: Write>(
     ensures fault { IfErr result (λ e. IsWriteFault calls.new e) }
     ensures done { OnOk result (calls.new ≡ calls.old) }
 {
-    run_operations(alloc, store, operations, Pace::Line, calls, writer)?;
+    run_operations(alloc, store, operations, Pace::Line, calls, notes, writer)?;
     put_contents(alloc, store, calls, writer)
 }
 
@@ -79,12 +90,13 @@ fn put_line<W: Write>(
 }
 
 /// Runs operations on a store, and writes a line for each. What is left to be written then is the rows.
-fn run_operations<S: ShardStore, W: Write>(
+fn run_operations<S: ShardStore, N: Notes, W: Write>(
     alloc: Global,
     store: &mut S,
     operations: Vec<Planned>,
     pace: Pace,
     calls: &mut CallCounts,
+    notes: &mut N,
     writer: &mut W,
 ) -> Result<(), CliFault>
     ensures ok { OnOk result (Owes (W.contents writer.old) (W.contents writer.new)
@@ -95,48 +107,60 @@ fn run_operations<S: ShardStore, W: Write>(
     ensures done { OnOk result (calls.new ≡ calls.old) }
 {
     for operation in operations {
-        let line = line_of(alloc, store, operation)?;
+        let line = line_of(alloc, store, notes, operation)?;
         put_line(calls, writer, line.as_str(), pace)?;
     }
     Ok(())
 }
 
 /// Runs an operation, and gives its line.
-fn line_of<S: ShardStore>(
+fn line_of<S: ShardStore, N: Notes>(
     alloc: Global,
     store: &mut S,
+    notes: &mut N,
     operation: Planned,
 ) -> Result<String, CliFault>
     ensures ok { IfOk result (λ line. string_bytes line ≡ line_text (plan_outcome (S.state store.old) operation)) }
     ensures state { OnOk result (S.state store.new ≡ state_after (S.state store.old) (plan_outcome (S.state store.old) operation)) }
     ensures fault { IfErr result (λ e. e ≡ CliFault.Memory) }
 {
-    match run_operation(alloc, store, operation)? {
+    match run_operation(alloc, store, notes, operation)? {
         None => Ok(ok_line(alloc, store)?),
         Some(name) => Ok(format!(in alloc; "refused {name}\n")?),
     }
 }
 
-/// Runs an operation, and gives the name of its refusal if it is refused.
-fn run_operation<S: ShardStore>(
+/// Runs an operation, and gives the name of its refusal if it is refused, which is noted.
+fn run_operation<S: ShardStore, N: Notes>(
     alloc: Global,
     store: &mut S,
+    notes: &mut N,
     operation: Planned,
 ) -> Result<Option<&'static str>, CliFault>
     ensures ok { IfOk result (λ name. option_map (λ s. s.now) name ≡ name_in (plan_outcome (S.state store.old) operation)) }
     ensures state { OnOk result (S.state store.new ≡ state_after (S.state store.old) (plan_outcome (S.state store.old) operation)) }
     ensures fault { IfErr result (λ e. e ≡ CliFault.Memory) }
 {
+    let asked = operation.asked();
     let taken = match operation {
         Planned::Apply { version, batch } => store.apply(alloc, version, &batch),
-        Planned::Beyond { fault } => return Ok(Some(fault.name())),
+        Planned::Beyond { fault } => {
+            notes.refused(Refusal::Batch(fault));
+            return Ok(Some(fault.name()));
+        }
         Planned::Undo { to } => store.undo_to(alloc, to),
         Planned::Forget { through } => store.forget_through(alloc, through),
         Planned::Advance { version } => store.advance(version),
     };
     match taken {
-        Ok(()) => Ok(None),
-        Err(fault) => Ok(Some(refusal_of(fault)?)),
+        Ok(()) => {
+            notes.done();
+            Ok(None)
+        }
+        Err(fault) => {
+            note_refusal(store, notes, asked, fault);
+            Ok(Some(refusal_of(fault)?))
+        }
     }
 }
 

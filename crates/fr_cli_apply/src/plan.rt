@@ -36,4 +36,14 @@ impl Planned {
             Operation::Advance { version } => Planned::Advance { version },
         }
     }
+
+    /// The version that it asks for. A batch that breaks a limit asks for none that counts.
+    pub(crate) fn asked(&self) -> Version {
+        match self {
+            Planned::Apply { version, .. } | Planned::Advance { version } => *version,
+            Planned::Undo { to } => *to,
+            Planned::Forget { through } => *through,
+            Planned::Beyond { .. } => Version::ZERO,
+        }
+    }
 }

@@ -1,4 +1,5 @@
 //! A program's name and version, its own words, and how it ends.
+use crate::causes::Causes;
 use clap::Command;
 use clap::error::{Error, ErrorKind};
 use fr_cli_json::CliFault;
@@ -25,6 +26,8 @@ pub enum Ending {
     Fault(CliFault),
     /// It ended early by what this text says, with this status.
     Named(&'static str, u8),
+    /// The same, of a text that was made.
+    Told(String, u8),
     /// The words choose no command.
     BadWords(Error),
     /// They are bad words: they have one that is no option, it seems a script's file.
@@ -38,6 +41,7 @@ impl Ending {
             Ending::Done(status) => *status,
             Ending::Fault(fault) => fault.status(),
             Ending::Named(_, status) => *status,
+            Ending::Told(_, status) => *status,
             Ending::BadWords(_) => BAD_WORDS,
             Ending::FileNamed(_) => BAD_WORDS,
         }
@@ -49,10 +53,22 @@ impl Ending {
             Ending::Done(_) => Ok(()),
             Ending::Fault(fault) => eprintln!(rt; "{fault}"),
             Ending::Named(text, _) => eprintln!(rt; "{text}"),
+            Ending::Told(text, _) => eprintln!(rt; "{text}"),
             Ending::BadWords(error) => rt.eprint(error),
             Ending::FileNamed(error) => eprintln!(rt; "{error}\n{FILE_TIP}"),
         };
         ExitCode::from(self.status())
+    }
+
+    /// The same, with what is known of the cause.
+    pub fn say_why(&self, rt: &impl Eprint, causes: &Causes<'_>) -> ExitCode {
+        match self {
+            Ending::Fault(fault) => {
+                causes.say(rt, *fault);
+                ExitCode::from(fault.status())
+            }
+            _ => self.say(rt),
+        }
     }
 }
 

@@ -126,6 +126,8 @@ It prints a line for each operation, and then the rows of the store:
                         floor), AboveApplied (a forget above the version applied)
   KEY VALUE             a row, - for no bytes
 
+Standard error says why an operation is refused: 'ops[2]: version 5 is not after 6, the one applied'.
+
 With --store sql the rows are kept in the tables of a database in memory. It prints the same. With
 --db FILE too they are kept in that file, which is made if it is missing, and the operations go on
 from the store that it holds. A line is printed once what it says is synced to the file. So after a
@@ -156,8 +158,8 @@ output failed. A bad script prints no line.";
 
 /// What is below the help of `rows`.
 const ROWS_HELP: &str = "\
-It reads no input. It prints the state of the store that the file holds, and then its rows, as apply
-does:
+It reads no input, and writes nothing: the file and its folder may be read-only. It prints the state
+of the store that the file holds, and then its rows, as apply does:
 
   ok A floor F undo U   the version applied, the floor (no undo goes below it) and the number of
                         undo rows (values kept so that they can be put back)

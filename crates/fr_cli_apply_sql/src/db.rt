@@ -12,7 +12,7 @@ ghost use Rattle.fr_cli_apply_sql.specs.Db.{Holds, Keeps, cli_of, answer_of, sho
 
 use crate::fault::{DbFault, FileFault};
 use crate::show::show_on;
-use fr_cli_apply::apply_counted_on;
+use fr_cli_apply::{Notes, apply_noted_on};
 use fr_cli_json::{CallCounts, CliFault};
 use fr_sql_files::{OpenFault, SqlFileStore};
 use fr_sql_rows::FaithfulDisk;
@@ -86,10 +86,11 @@ fn shut<D: FaithfulDisk + Drop>(store: SqlFileStore<D>) -> Result<Files<D>, DbFa
 }
 
 /// Runs the operations of a script on a store, and shuts it.
-fn apply_and_shut<D: FaithfulDisk + Drop, R: Read, W: Write>(
+fn apply_and_shut<D: FaithfulDisk + Drop, N: Notes, R: Read, W: Write>(
     alloc: Global,
     store: SqlFileStore<D>,
     calls: &mut CallCounts,
+    notes: &mut N,
     reader: &mut R,
     writer: &mut W,
 ) -> Result<Files<D>, DbFault>
@@ -100,7 +101,7 @@ fn apply_and_shut<D: FaithfulDisk + Drop, R: Read, W: Write>(
     ensures cause { HasCause calls.new (answer_of result) }
 {
     let mut store = store;
-    match apply_counted_on(alloc, &mut store, calls, reader, writer) {
+    match apply_noted_on(alloc, &mut store, calls, notes, reader, writer) {
         Ok(_) => shut(store),
         Err(fault) => Err(ended(store, fault)),
     }
@@ -109,16 +110,17 @@ fn apply_and_shut<D: FaithfulDisk + Drop, R: Read, W: Write>(
 /// Runs the operations of a script on the store that files hold, or on an empty one if they hold none yet, and writes a
 /// line for each and then the rows, as [`fr_cli_apply::run_apply`] does. Each line is flushed once what it says is in
 /// the files. The files are given back, which then hold what the operations left. `calls` counts as in
-/// [`crate::apply_sql_counted`].
+/// [`crate::apply_sql_counted`], and `notes` hears of each operation.
 ///
 /// # Errors
 ///
 /// `NoStore`: the files hold something else. `Full`, `Failed`: they have no room, or failed. `Command`: a fault that a
 /// store in memory has too. The operations whose lines were written are then done, and maybe the next one.
-pub fn apply_on_files<D: FaithfulDisk + Drop, R: Read, W: Write>(
+pub fn apply_on_files<D: FaithfulDisk + Drop, N: Notes, R: Read, W: Write>(
     alloc: Global,
     files: Files<D>,
     calls: &mut CallCounts,
+    notes: &mut N,
     reader: &mut R,
     writer: &mut W,
 ) -> Result<Files<D>, DbFault>
@@ -129,7 +131,7 @@ pub fn apply_on_files<D: FaithfulDisk + Drop, R: Read, W: Write>(
     ensures cause { HasCause calls.new (answer_of result) }
 {
     match opened(alloc, files) {
-        Ok(store) => apply_and_shut(alloc, store, calls, reader, writer),
+        Ok(store) => apply_and_shut(alloc, store, calls, notes, reader, writer),
         Err(fault) => Err(fault),
     }
 }

@@ -2,13 +2,16 @@
 use crate::db::{apply_on_files, show_files};
 use crate::fault::{DbFault, FileFault};
 use crate::memory_file::{MemoryFile, files_of};
-use fr_cli_json::{CallCounts, CliFault};
+use crate::refused::{Want, refused, unopened, unread};
+use crate::shown::shown_files;
+use fr_cli_apply::Notes;
+use fr_cli_json::CallCounts;
 use fr_host::Mirror;
 use fr_sql_files::{OpenFault, SqlFileStore};
 use fr_undo::StoreFault;
 use sqlite_disk::{Disk, Files};
-use sqlite_std_file::{FileFrom, OpenError, Unknown, open};
-use std::alloc::{AllocError, Global};
+use sqlite_std_file::{FileFrom, Unknown, open};
+use std::alloc::Global;
 use std::io::{ErrorKind, Read, Write};
 use std::{fs, io};
 
@@ -18,34 +21,25 @@ pub type HostFile = Mirror<FileFrom<Unknown>>;
 /// What each database begins with.
 const HEAD: &[u8] = b"SQLite format 3\0";
 
-/// What it is that files were not opened.
-fn unopened(error: OpenError) -> DbFault {
-    match error {
-        OpenError::Busy => DbFault::Files(FileFault::Busy),
-        OpenError::HotJournal => DbFault::Files(FileFault::Journal),
-        OpenError::OutOfMemory => DbFault::Command(CliFault::Memory),
-        OpenError::Io(error) => match error.kind() {
-            ErrorKind::OutOfMemory => DbFault::Command(CliFault::Memory),
-            ErrorKind::StorageFull => DbFault::Files(FileFault::Full),
-            _ => DbFault::Files(FileFault::Unopened),
-        },
-    }
-}
-
-/// What it is that a file was not read.
-fn unread(error: io::Error) -> DbFault {
-    match error.kind() {
-        ErrorKind::OutOfMemory => DbFault::Command(CliFault::Memory),
-        _ => DbFault::Files(FileFault::Failed),
-    }
-}
-
-/// Whether the log of a database has anything. It lies where a link at the name leads.
-fn has_log(rt: &HostRuntime, name: &str) -> Result<bool, AllocError> {
-    let log = match fs::canonicalize(rt, name) {
-        Ok(real) => format!(in rt.alloc(); "{}-wal", real.as_str())?,
-        Err(_) => format!(in rt.alloc(); "{name}-wal")?,
+/// Whether the log of a database has anything. It lies where a link at the name leads. A name is refused with which that
+/// of a log or of a journal would be too long.
+fn has_log(rt: &HostRuntime, name: &str) -> Result<bool, DbFault> {
+    let (log, journal) = match fs::canonicalize(rt, name) {
+        Ok(real) => (
+            format!(in rt.alloc(); "{}-wal", real.as_str())?,
+            format!(in rt.alloc(); "{}-journal", real.as_str())?,
+        ),
+        Err(_) => (
+            format!(in rt.alloc(); "{name}-wal")?,
+            format!(in rt.alloc(); "{name}-journal")?,
+        ),
     };
+    match fs::symlink_metadata(rt, journal.as_str()) {
+        Err(error) if error.kind() == ErrorKind::InvalidFilename => {
+            return Err(DbFault::Files(FileFault::LongName));
+        }
+        _ => {}
+    }
     match fs::metadata(rt, log.as_str()) {
         Ok(found) => Ok(found.len() > 0),
         Err(_) => Ok(false),
@@ -64,27 +58,44 @@ fn has_head(rt: &HostRuntime, name: &str) -> io::Result<bool> {
 }
 
 /// What is at the name of a store.
-#[derive(Clone, Copy)]
+#[derive(Clone, Copy, PartialEq, Eq)]
 enum Place {
     Missing,
+    /// A file without a byte, and without a log.
     Empty,
-    Held,
+    /// A file with a log.
+    Logged,
+    /// A file that has bytes, and no log.
+    Alone,
 }
 
-/// Looks what is at a name, before anything is made beside it. What can be seen to be no store is refused.
-fn look(rt: &HostRuntime, name: &str) -> Result<Place, DbFault> {
+/// Looks what is at a name, before anything is made beside it. What is no plain file is refused.
+fn look(rt: &HostRuntime, name: &str, want: Want) -> Result<Place, DbFault> {
+    if name.is_empty() {
+        return Err(DbFault::Files(FileFault::NoName));
+    }
     let has_log = has_log(rt, name)?;
     match fs::metadata(rt, name) {
+        Err(error) if error.kind() != ErrorKind::NotFound => Err(refused(rt, name, want, error)),
         Err(_) if has_log => Err(DbFault::Files(FileFault::LoneLog)),
         Err(_) => Ok(Place::Missing),
-        Ok(found) if !found.is_file() => Err(DbFault::Files(FileFault::Unopened)),
-        Ok(_) if has_log => Ok(Place::Held),
+        Ok(found) if found.is_dir() => Err(DbFault::Files(FileFault::Folder)),
+        Ok(found) if !found.is_file() => Err(DbFault::Files(FileFault::NotPlain)),
+        Ok(_) if has_log => Ok(Place::Logged),
         Ok(found) if found.len() == 0 => Ok(Place::Empty),
-        Ok(_) => match has_head(rt, name) {
-            Ok(true) => Ok(Place::Held),
-            Ok(false) => Err(DbFault::Files(FileFault::NoStore)),
-            Err(_) => Err(DbFault::Files(FileFault::Unopened)),
-        },
+        Ok(_) => Ok(Place::Alone),
+    }
+}
+
+/// Refuses a file that has no log, and begins as no database does.
+fn refuse_another(rt: &HostRuntime, name: &str, place: Place) -> Result<(), DbFault> {
+    if place != Place::Alone {
+        return Ok(());
+    }
+    match has_head(rt, name) {
+        Ok(true) => Ok(()),
+        Ok(false) => Err(DbFault::Files(FileFault::NoStore)),
+        Err(error) => Err(refused(rt, name, Want::Write, error)),
     }
 }
 
@@ -93,7 +104,7 @@ fn look(rt: &HostRuntime, name: &str) -> Result<Place, DbFault> {
 fn host_files(rt: &HostRuntime, alloc: Global, name: &str) -> Result<Files<HostFile>, DbFault> {
     let Files { log, db } = match open(rt, name, Unknown) {
         Ok(files) => files,
-        Err(error) => return Err(unopened(error)),
+        Err(error) => return Err(unopened(rt, name, error)),
     };
     let log = match Mirror::over(alloc, log) {
         Ok(log) => log,
@@ -118,6 +129,16 @@ fn bytes_of(alloc: Global, file: &mut HostFile) -> io::Result<Vec<u8>> {
     Ok(bytes)
 }
 
+/// The bytes of a file in memory.
+fn memory_bytes(alloc: Global, file: &mut MemoryFile) -> io::Result<Vec<u8>> {
+    let len = file.len()?;
+    let Ok(mut bytes) = vec![in alloc; 0; len] else {
+        return Err(ErrorKind::OutOfMemory.into());
+    };
+    file.read_at(0, &mut bytes)?;
+    Ok(bytes)
+}
+
 /// A copy of files, in memory: what is tried on it is not written into them.
 fn copy_of(alloc: Global, files: &mut Files<HostFile>) -> io::Result<Files<MemoryFile>> {
     let log = bytes_of(alloc, &mut files.log)?;
@@ -133,9 +154,11 @@ fn hold_another(alloc: Global, files: &mut Files<HostFile>) -> io::Result<bool> 
     Ok(matches!(opened, Err(OpenFault::NoStore)))
 }
 
-/// Whether files hold a store already.
-fn hold_store(alloc: Global, files: &mut Files<HostFile>) -> io::Result<bool> {
-    match SqlFileStore::open(alloc, copy_of(alloc, files)?) {
+/// Whether files hold a store already. What is tried is tried on a copy.
+fn hold_store(alloc: Global, files: &mut Files<MemoryFile>) -> io::Result<bool> {
+    let log = memory_bytes(alloc, &mut files.log)?;
+    let db = memory_bytes(alloc, &mut files.db)?;
+    match SqlFileStore::open(alloc, files_of(log, db)) {
         Ok(_) => Ok(true),
         Err(StoreFault::Memory) => Err(ErrorKind::OutOfMemory.into()),
         Err(_) => Ok(false),
@@ -154,22 +177,25 @@ fn store_files(rt: &HostRuntime, alloc: Global, name: &str) -> Result<Files<Host
 
 /// Runs the operations of a script on the store in the file of a name, which is made if it is missing: see
 /// [`apply_on_files`]. The status is 0.
-pub fn run_apply_db<R: Read, W: Write>(
+pub fn run_apply_db<N: Notes, R: Read, W: Write>(
     rt: &HostRuntime,
     alloc: Global,
     name: &str,
+    notes: &mut N,
     reader: &mut R,
     writer: &mut W,
 ) -> Result<u8, DbFault> {
     let mut calls = CallCounts::new();
-    look(rt, name)?;
+    let place = look(rt, name, Want::Write)?;
+    refuse_another(rt, name, place)?;
     let files = store_files(rt, alloc, name)?;
-    apply_on_files(alloc, files, &mut calls, reader, writer)?;
+    apply_on_files(alloc, files, &mut calls, notes, reader, writer)?;
     Ok(0)
 }
 
-/// Shows the store in the file of a name: see [`show_files`]. The status is 0. No file is made, and no store: a database
-/// without tables is refused as `NoStore`.
+/// Shows the store in the file of a name: see [`show_files`]. The status is 0. The file and its log are read alone, and
+/// what SQLite would write into them at an open is done in memory. No file is made, and no store: a database without
+/// tables is refused as `NoStore`.
 pub fn run_rows_db<W: Write>(
     rt: &HostRuntime,
     alloc: Global,
@@ -177,12 +203,10 @@ pub fn run_rows_db<W: Write>(
     writer: &mut W,
 ) -> Result<u8, DbFault> {
     let mut calls = CallCounts::new();
-    match look(rt, name)? {
-        Place::Missing => return Err(DbFault::Files(FileFault::Unopened)),
-        Place::Empty => return Err(DbFault::Files(FileFault::NoStore)),
-        Place::Held => (),
+    if look(rt, name, Want::Read)? == Place::Missing {
+        return Err(DbFault::Files(FileFault::Missing));
     }
-    let mut files = host_files(rt, alloc, name)?;
+    let mut files = shown_files(rt, alloc, name)?;
     match hold_store(alloc, &mut files) {
         Ok(true) => {}
         Ok(false) => return Err(DbFault::Files(FileFault::NoStore)),

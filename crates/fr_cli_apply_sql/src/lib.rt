@@ -5,7 +5,9 @@ mod db;
 mod fault;
 mod host;
 mod memory_file;
+mod refused;
 mod show;
+mod shown;
 
 ghost use Rattle.std.specs.Prelude.{◌≡◌};
 ghost use Rattle.fr_cli_json.specs.Calls.{no_calls, HasCause};
@@ -16,7 +18,7 @@ ghost use Rattle.fr_cli_apply.specs.Lines.{lines_of};
 use crate::memory_file::blank_files;
 pub use db::{apply_on_files, show_files};
 pub use fault::{DbFault, FileFault};
-use fr_cli_apply::apply_counted_on;
+use fr_cli_apply::{Nobody, Notes, apply_noted_on};
 use fr_cli_json::{CallCounts, CliFault};
 use fr_sql_files::SqlFileStore;
 pub use host::{HostFile, run_apply_db, run_rows_db};
@@ -53,11 +55,27 @@ pub fn apply_sql_counted<R: Read, W: Write>(
         W.contents writer.old writer.new result }
     ensures cause { HasCause calls.new result }
 {
+    apply_sql_noted(alloc, calls, &mut Nobody, reader, writer)
+}
+
+/// As [`apply_sql_counted`]. Of each operation `notes` hears that it was done, or why it was refused.
+pub fn apply_sql_noted<N: Notes, R: Read, W: Write>(
+    alloc: Global,
+    calls: &mut CallCounts,
+    notes: &mut N,
+    reader: &mut R,
+    writer: &mut W,
+) -> Result<u8, CliFault>
+    requires fresh { calls.old ≡ no_calls }
+    ensures prints { Prints script_of lines_of (R.remaining reader.old) (R.remaining reader.new)
+        W.contents writer.old writer.new result }
+    ensures cause { HasCause calls.new result }
+{
     let Ok(files) = blank_files(alloc) else {
         return Err(CliFault::Memory);
     };
     match SqlFileStore::create(alloc, files) {
-        Ok(mut store) => apply_counted_on(alloc, &mut store, calls, reader, writer),
+        Ok(mut store) => apply_noted_on(alloc, &mut store, calls, notes, reader, writer),
         Err(_) => Err(CliFault::Memory),
     }
 }

@@ -1,6 +1,7 @@
 """Where a script is bad, by docs/FORMATS.md: `said_of(command, script)` is what stands behind `bad script`, or None of
 a script that is taken. Forms are those of `forms.py`; whether values that are in their forms go together is asked of
 the schemas, one part at a time."""
+import codecs
 import json
 import math
 import re
@@ -251,6 +252,10 @@ def place(before, line=1):
 
 def said_of(command, script):
     """Where a script, in bytes, is bad, what is there and what may be there; or None."""
+    if not script:
+        return "standard input is empty"
+    if script.startswith(codecs.BOM_UTF8):
+        return f"{place('')}: found a byte order mark; save the script as UTF-8 without one"
     return said_by(SCRIPTS[command], script)
 
 

@@ -4,7 +4,7 @@ use Rattle.fr_cli_apply.specs.Plan.{plan_of}
 use Rattle.fr_cli_apply.proofs.PlanLemmas.{bad_found, front_found, all_found}
 use Rattle.fr_cli_json.proofs.TextLemmas.{gains_kept, appends_kept}
 use Rattle.fr_cli_json.proofs.CommandLemmas.{unread, misread, cut_off, printed}
-use Rattle.fr_cli_apply.proofs.apply.apply_counted.Goals as goal
+use Rattle.fr_cli_apply.proofs.apply.apply_noted.Goals as goal
 
 pub returns-in_err-input-clause-prints : goal.returns-in_err-input-clause-prints
 returns-in_err-input-clause-prints g c = unread _ _ _ _ _ _ _ c.from_residual.ensures.0 (search rules)

@@ -1,0 +1,70 @@
+//! Why the host refused a file, found by a second look where its error does not tell.
+use crate::fault::{DbFault, FileFault};
+use fr_cli_json::CliFault;
+use sqlite_std_file::OpenError;
+use std::fs::OpenOptions;
+use std::io::ErrorKind;
+use std::os::unix::fs::MetadataExt;
+use std::{fs, io};
+
+/// What a command wanted to do with a file.
+#[derive(Clone, Copy, PartialEq, Eq)]
+pub(crate) enum Want {
+    Read,
+    Write,
+}
+
+/// Why files were not opened.
+pub(crate) fn unopened(rt: &HostRuntime, name: &str, error: OpenError) -> DbFault {
+    match error {
+        OpenError::Busy => DbFault::Files(FileFault::Busy),
+        OpenError::HotJournal => DbFault::Files(FileFault::Journal),
+        OpenError::OutOfMemory => DbFault::Command(CliFault::Memory),
+        OpenError::Io(error) => refused(rt, name, Want::Write, error),
+    }
+}
+
+/// Why a file of a name was not opened, or not looked at.
+pub(crate) fn refused(rt: &HostRuntime, name: &str, want: Want, error: io::Error) -> DbFault {
+    DbFault::Files(match error.kind() {
+        ErrorKind::OutOfMemory => return DbFault::Command(CliFault::Memory),
+        ErrorKind::StorageFull | ErrorKind::QuotaExceeded => FileFault::Full,
+        ErrorKind::NotFound => FileFault::NoFolder,
+        ErrorKind::NotADirectory => FileFault::NotInFolder,
+        ErrorKind::IsADirectory => FileFault::Folder,
+        ErrorKind::ReadOnlyFilesystem => FileFault::ReadOnly,
+        ErrorKind::FilesystemLoop => FileFault::Circle,
+        ErrorKind::InvalidFilename => FileFault::LongName,
+        ErrorKind::PermissionDenied => denied(rt, name, want),
+        ErrorKind::Unsupported => not_plain(rt, name),
+        _ => FileFault::Unopened,
+    })
+}
+
+/// Of what there is no right.
+fn denied(rt: &HostRuntime, name: &str, want: Want) -> FileFault {
+    if want == Want::Read {
+        return FileFault::DeniedRead;
+    }
+    match OpenOptions::new().read(true).write(true).open(rt, name) {
+        Ok(_) => FileFault::DeniedFolder,
+        Err(error) if error.kind() == ErrorKind::NotFound => FileFault::DeniedFolder,
+        Err(_) => FileFault::Denied,
+    }
+}
+
+/// What a file is that is no plain file of one name.
+fn not_plain(rt: &HostRuntime, name: &str) -> FileFault {
+    match fs::metadata(rt, name) {
+        Ok(found) if found.is_file() && found.nlink() != 1 => FileFault::SecondName,
+        _ => FileFault::NotPlain,
+    }
+}
+
+/// What it is that a file was not read.
+pub(crate) fn unread(error: io::Error) -> DbFault {
+    match error.kind() {
+        ErrorKind::OutOfMemory => DbFault::Command(CliFault::Memory),
+        _ => DbFault::Files(FileFault::Failed),
+    }
+}
