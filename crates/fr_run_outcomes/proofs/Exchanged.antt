@@ -28,7 +28,7 @@ use Rattle.fr_run.specs.Run.{IsUp, IsRun, WantsSome}
 use Rattle.fr_run.specs.Laws.{Laws}
 use Rattle.fr_run.proofs.Cells.{Contains-none, Contains-cases}
 use Rattle.fr_run.proofs.Growth.{rec_is}
-use Rattle.fr_run_outcomes.specs.Pending.{PendingIsSent, IsExchanged, PendingMayBeHeard}
+use Rattle.fr_run_outcomes.specs.Pending.{PendingIsSent, IsAnswerOf, IsExchanged, PendingMayBeHeard}
 use Rattle.fr_run_outcomes.proofs.Lists.{map_from, flat_from}
 
 -- ---- what is pending wants an answer
@@ -94,24 +94,25 @@ up_later c h b r t at never up = record {
   up = λ k. elim (Contains-cases t h (Gone (node.Recoverer b)) k) [ inl now ↦ never (node.Recoverer b) now | inr before ↦ up.up before ];
 }
 
-hears : (c : Config) (h : List Turn) (b : ℕ) (r : RecState) (to : NodeId) (t : Turn) (u : Tell) → IsRun c (t ∷ h) → rec_at c (t ∷ h) b ≡ Some r → IsUp c (t ∷ h) (node.Recoverer b) → Told (t ∷ h) to (node.Recoverer b) u → IsExchanged c h b r to
-hears c h b r to t u run at up told = record {
+hears : (c : Config) (h : List Turn) (b : ℕ) (r : RecState) (to : NodeId) (a : Ask) (t : Turn) (u : Tell) → IsAnswerOf c h b to a t u → IsRun c (t ∷ h) → rec_at c (t ∷ h) b ≡ Some r → IsUp c (t ∷ h) (node.Recoverer b) → Told (t ∷ h) to (node.Recoverer b) u → IsExchanged c h b r to a
+hears c h b r to a t u answers run at up told = record {
   asked = t;
   tell = u;
+  answers = answers;
   is_run = ((record { actor = up; told = told }, (r, at, refl)), run);
   after = rw (eq-eqb b b refl) (ap (λ o. option_map (λ s. after_hear s to u) o) at);
 }
 
-exchanged : (c : Config) (h : List Turn) → IsRun c h → (b : ℕ) (r : RecState) → rec_at c h b ≡ Some r → IsUp c h (node.Recoverer b) → (to : NodeId) (a : Ask) → AccountsFor r to a → Wants a → Sent h (node.Recoverer b) to a → IsUp c h to → IsExchanged c h b r to
+exchanged : (c : Config) (h : List Turn) → IsRun c h → (b : ℕ) (r : RecState) → rec_at c h b ≡ Some r → IsUp c h (node.Recoverer b) → (to : NodeId) (a : Ask) → AccountsFor r to a → Wants a → Sent h (node.Recoverer b) to a → IsUp c h to → IsExchanged c h b r to a
 exchanged c h run b r at up (node.Cell i) (ask.Cell a) k wants sent there =
     let t = CellTurn (node.Recoverer b) i a (cell.answer_of (cell_at c h i) a) in
-    hears c h b r (node.Cell i) t (tell.Cell (cell.answer_of (cell_at c h i) a)) ((ltb-true i c.cells there.there, sent, refl), run) at (up_later c h b r t at (λ who e. absurd (cc)) up) (inl (refl, refl, refl))
+    hears c h b r (node.Cell i) (ask.Cell a) t (tell.Cell (cell.answer_of (cell_at c h i) a)) (refl, refl) ((ltb-true i c.cells there.there, sent, refl), run) at (up_later c h b r t at (λ who e. absurd (cc)) up) (inl (refl, refl, refl))
 exchanged c h run b r at up (node.Cell i) (ask.Log a) k wants sent there = absurd k
 exchanged c h run b r at up (node.Cell i) (ask.Seq a) k wants sent there = absurd k
 exchanged c h run b r at up (node.Log e i) (ask.Cell a) k wants sent there = absurd k
 exchanged c h run b r at up (node.Log e i) (ask.Log a) k wants sent there =
     let t = LogTurn (node.Recoverer b) e i a (log.answer_of (log_at c h e i) a) in
-    hears c h b r (node.Log e i) t (tell.Log (log.answer_of (log_at c h e i) a)) ((there, inl sent, refl, wants), run) at (up_later c h b r t at (λ who e. absurd (cc)) up) (inl (refl, refl, refl))
+    hears c h b r (node.Log e i) (ask.Log a) t (tell.Log (log.answer_of (log_at c h e i) a)) (refl, refl) ((there, inl sent, refl, wants), run) at (up_later c h b r t at (λ who e. absurd (cc)) up) (inl (refl, refl, refl))
 exchanged c h run b r at up (node.Log e i) (ask.Seq a) k wants sent there = absurd k
 exchanged c h run b r at up (node.Sequencer e) a k wants sent there = absurd k
 exchanged c h run b r at up (node.Proxy e p) a k wants sent there = absurd k

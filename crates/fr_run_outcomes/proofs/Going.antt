@@ -4,7 +4,7 @@ use Rattle.std.specs.Prelude.{is_some}
 use Rattle.std.specs.List.{Contains, All}
 use Rattle.std.specs.Option.{option_map}
 use Rattle.std.proofs.lemmas.Bool.{eq-eqb, eqb-true, ltb-true, true≢false}
-use Rattle.std.proofs.lemmas.List.Elements.{All-nil, All-cons, All-head, All-tail, All-append}
+use Rattle.std.proofs.lemmas.List.Elements.{All-nil, All-cons, All-head, All-tail, All-append, All-weaker}
 use Rattle.fr_base.specs.declared.place.NodeId.{NodeId}
 use Rattle.fr_base.specs.declared.place.NodeId.TheVariants as node
 use Rattle.fr_register.specs.Cell as register
@@ -19,28 +19,50 @@ use Rattle.fr_epoch.specs.Recoverer.{RecState}
 use Rattle.fr_epoch.specs.Asks.{new_asks}
 use Rattle.fr_epoch.specs.Hear.{after_hear}
 use Rattle.fr_run.specs.Config.{Config}
-use Rattle.fr_run.specs.Turn.{Turn, CellTurn, LogTurn, RecHeard, Gone, Sent, Told}
+use Rattle.fr_run.specs.Turn.{Turn, Begun, CellTurn, LogTurn, SeqTurn, Submitted, ProxyHeard, RecHeard, StorageHeard, Gone, Crashed, Sent, Told}
 use Rattle.fr_run.specs.Nodes.{cell_at, rec_at, logs_at, log_at}
 use Rattle.fr_run.specs.Run.{IsUp, IsRun, IsTurn, WantsSome}
 use Rattle.fr_run.specs.Laws.{Laws}
 use Rattle.fr_run.proofs.Cells.{Contains-cases}
 use Rattle.fr_run.proofs.Growth.{rec_grows}
 use Rattle.fr_run_headline.proofs.Logs.{logs_stay}
-use Rattle.fr_run_outcomes.specs.Going.{LosesNothing, GoesOn}
+use Rattle.fr_run_outcomes.specs.Going.{IsOwn, GoesOn}
 
 -- ---- going on
 
 pub stands : (c : Config) (b : ℕ) (h : List Turn) → IsRun c h → GoesOn c b h h
-stands c b h run = record { more = []; is = refl; is_run = run; lossless = All-nil LosesNothing; low = λ i le. le }
+stands c b h run = record { more = []; is = refl; is_run = run; own = All-nil (IsOwn b); low = λ i le. le }
 
 pub goes_further : (c : Config) (b : ℕ) (h mid later : List Turn) → GoesOn c b h mid → GoesOn c b mid later → GoesOn c b h later
 goes_further c b h mid later first second = record {
   more = second.more ++ first.more;
   is = append_assoc second.more first.more h ∙ (ap (λ x. second.more ++ x) first.is ∙ second.is);
   is_run = second.is_run;
-  lossless = All-append LosesNothing second.more first.more second.lossless first.lossless;
+  own = All-append (IsOwn b) second.more first.more second.own first.own;
   low = λ i le. second.low i (first.low i le);
 }
+
+-- ---- nothing is lost
+
+-- a turn in which nothing is lost and nothing crashes for good
+abbrev pub LosesNothing : Turn → Type 0
+LosesNothing t = (who : NodeId) → t ≡ Gone who → ⊥
+
+-- an own turn is such a one
+own_loses_none : (b : ℕ) (t : Turn) → IsOwn b t → LosesNothing t
+own_loses_none b (Begun x shape asks) k = λ who e. absurd (cc)
+own_loses_none b (CellTurn from i a u) k = λ who e. absurd (cc)
+own_loses_none b (LogTurn from e i a u) k = λ who d. absurd (cc)
+own_loses_none b (SeqTurn from e a u) k = λ who d. absurd (cc)
+own_loses_none b (Submitted e p step batch asks) k = λ who d. absurd (cc)
+own_loses_none b (ProxyHeard e p from u outcome asks) k = λ who d. absurd (cc)
+own_loses_none b (RecHeard x from u asks) k = λ who d. absurd (cc)
+own_loses_none b (StorageHeard tag from u taken fault) k = λ who d. absurd (cc)
+own_loses_none b (Gone who) k = absurd k
+own_loses_none b (Crashed who) k = absurd k
+
+pub loses_none : (b : ℕ) (more : List Turn) → All (IsOwn b) more → All LosesNothing more
+loses_none b more own = All-weaker (IsOwn b) LosesNothing (own_loses_none b) more own
 
 -- ---- what is up stays up
 
@@ -52,7 +74,7 @@ gone_more (t ∷ more) h lossless who k = elim (Contains-cases t (more ++ h) (Go
 ]
 
 pub still_up : (c : Config) (b : ℕ) (h later : List Turn) → GoesOn c b h later → (who : NodeId) → (Contains h (Gone who) → ⊥) → Contains later (Gone who) → ⊥
-still_up c b h later k who up gone = up (gone_more k.more h k.lossless who (subst (λ l. Contains l (Gone who)) (sym k.is) gone))
+still_up c b h later k who up gone = up (gone_more k.more h (loses_none b k.more k.own) who (subst (λ l. Contains l (Gone who)) (sym k.is) gone))
 
 log_stays_there : Laws → (c : Config) (more h : List Turn) → IsRun c (more ++ h) → (e i : ℕ) → nat_lt i (logs_at c h e) ≡ true → nat_lt i (logs_at c (more ++ h) e) ≡ true
 log_stays_there laws c [] h run e i there = there
@@ -135,14 +157,14 @@ pub record IsHeard (c : Config) (h : List Turn) (b : ℕ) (asked : Turn) (n : Re
   pub cells : (j : ℕ) → cell_at c later j ≡ cell_at c (asked ∷ h) j
 
 hears : (c : Config) (h : List Turn) (b : ℕ) (r : RecState) (to : NodeId) (t : Turn) (u : Tell) → IsRun c (t ∷ h) → rec_at c (t ∷ h) b ≡ Some r → IsUp c (t ∷ h) (node.Recoverer b) → Told (t ∷ h) to (node.Recoverer b) u
-    → LosesNothing t → ((j : ℕ) → (cell_at c h j).promised ≤ b → (cell_at c (t ∷ h) j).promised ≤ b) → IsHeard c h b t (after_hear r to u)
-hears c h b r to t u run at up told lossless low = record {
+    → IsOwn b t → ((j : ℕ) → (cell_at c h j).promised ≤ b → (cell_at c (t ∷ h) j).promised ≤ b) → IsHeard c h b t (after_hear r to u)
+hears c h b r to t u run at up told own low = record {
   later = RecHeard b to u (new_asks r to u) ∷ t ∷ h;
   goes_on = record {
     more = RecHeard b to u (new_asks r to u) ∷ t ∷ [];
     is = refl;
     is_run = ((record { actor = up; told = told }, (r, at, refl)), run);
-    lossless = All-cons LosesNothing (RecHeard b to u (new_asks r to u)) (t ∷ []) (λ who e. absurd (cc)) (All-cons LosesNothing t [] lossless (All-nil LosesNothing));
+    own = All-cons (IsOwn b) (RecHeard b to u (new_asks r to u)) (t ∷ []) refl (All-cons (IsOwn b) t [] own (All-nil (IsOwn b)));
     low = low;
   };
   asking = run;
@@ -161,7 +183,7 @@ pub log_heard : (c : Config) (h : List Turn) → IsRun c h → (b : ℕ) (r : Re
     → IsHeard c h b (LogTurn (node.Recoverer b) e i a (log.answer_of (log_at c h e i) a)) (after_hear r (node.Log e i) (tell.Log (log.answer_of (log_at c h e i) a)))
 log_heard c h run b r at up e i a there sent wants =
     let t = LogTurn (node.Recoverer b) e i a (log.answer_of (log_at c h e i) a) in
-    hears c h b r (node.Log e i) t (tell.Log (log.answer_of (log_at c h e i) a)) ((there, inl sent, refl, wants), run) at (up_later c h b r t at (λ who d. absurd (cc)) up) (inl (refl, refl, refl)) (λ who d. absurd (cc)) (λ j le. le)
+    hears c h b r (node.Log e i) t (tell.Log (log.answer_of (log_at c h e i) a)) ((there, inl sent, refl, wants), run) at (up_later c h b r t at (λ who d. absurd (cc)) up) (inl (refl, refl, refl)) refl (λ j le. le)
 
 -- a cell is asked, which then promises no more than the ballot, and the recoverer hears what it tells
 pub cell_heard : (c : Config) (h : List Turn) → IsRun c h → (b : ℕ) (r : RecState) → rec_at c h b ≡ Some r → IsUp c h (node.Recoverer b) → (i : ℕ) (a : CellAsk) → i < c.cells → Sent h (node.Recoverer b) (node.Cell i) (ask.Cell a)
@@ -169,7 +191,7 @@ pub cell_heard : (c : Config) (h : List Turn) → IsRun c h → (b : ℕ) (r : R
     → IsHeard c h b (CellTurn (node.Recoverer b) i a (register.answer_of (cell_at c h i) a)) (after_hear r (node.Cell i) (tell.Cell (register.answer_of (cell_at c h i) a)))
 cell_heard c h run b r at up i a below sent low =
     let t = CellTurn (node.Recoverer b) i a (register.answer_of (cell_at c h i) a) in
-    hears c h b r (node.Cell i) t (tell.Cell (register.answer_of (cell_at c h i) a)) ((below, sent, refl), run) at (up_later c h b r t at (λ who d. absurd (cc)) up) (inl (refl, refl, refl)) (λ who d. absurd (cc)) (λ j. others j)
+    hears c h b r (node.Cell i) t (tell.Cell (register.answer_of (cell_at c h i) a)) ((below, sent, refl), run) at (up_later c h b r t at (λ who d. absurd (cc)) up) (inl (refl, refl, refl)) refl (λ j. others j)
   where
     others : (j : ℕ) → (cell_at c h j).promised ≤ b → (cell_at c (CellTurn (node.Recoverer b) i a (register.answer_of (cell_at c h i) a) ∷ h) j).promised ≤ b
     others j le = go (i == j) refl

@@ -30,7 +30,7 @@ use Rattle.fr_run_headline.specs.BoundLaws.{MarkedIsState}
 use Rattle.fr_run_headline.proofs.Named.{log_named}
 use Rattle.fr_run_headline.proofs.Tells.{push_is_reached}
 use Rattle.fr_run_headline.specs.Storages.{HearsAreTaken}
-use Rattle.fr_run_outcomes.specs.Going.{LosesNothing}
+use Rattle.fr_run_outcomes.specs.Going.{IsOwn}
 use Rattle.fr_run_outcomes.specs.Hearing.{HearsOn, MarkIsHeard}
 use Rattle.fr_run_outcomes.proofs.Locking.{some_not_none}
 
@@ -99,8 +99,8 @@ heard state taken c h config e i x tag inside run = record {
     more = StorageHeard tag (node.Log e i) (tell.Log (Marked x)) None (marked_fault (storage_at c h tag) x) ∷ LogTurn (node.Storage tag) e i (MarkAsked e) (Marked x) ∷ [];
     is = refl;
     is_run = whole;
-    lossless = All-cons LosesNothing (StorageHeard tag (node.Log e i) (tell.Log (Marked x)) None (marked_fault (storage_at c h tag) x)) (LogTurn (node.Storage tag) e i (MarkAsked e) (Marked x) ∷ []) (λ who d. absurd (cc))
-        (All-cons LosesNothing (LogTurn (node.Storage tag) e i (MarkAsked e) (Marked x)) [] (λ who d. absurd (cc)) (All-nil LosesNothing));
+    own = All-cons (IsOwn b) (StorageHeard tag (node.Log e i) (tell.Log (Marked x)) None (marked_fault (storage_at c h tag) x)) (LogTurn (node.Storage tag) e i (MarkAsked e) (Marked x) ∷ []) refl
+        (All-cons (IsOwn b) (LogTurn (node.Storage tag) e i (MarkAsked e) (Marked x)) [] tt (All-nil (IsOwn b)));
     low = λ j le. le;
   };
   leaves = record { cells = refl; recoverers = λ b. refl; lost = λ b. refl };

@@ -10,6 +10,7 @@ pub mod Exchanged
 pub mod Going
 pub mod Counts
 pub mod Lose
+pub mod Rooms
 pub mod Waiting
 pub mod Reading
 pub mod Locking

@@ -9,9 +9,10 @@ use Rattle.fr_run.specs.Turn.{Turn, Begun, CellTurn, LogTurn, SeqTurn, Submitted
 use Rattle.fr_run.proofs.Cells.{Contains-here, Contains-later, Contains-none, Contains-cases}
 use Rattle.fr_run.specs.Config.{Config}
 use Rattle.fr_run_headline.specs.Retrievable.{lost_with, lost_after, lost_logs}
-use Rattle.fr_run_outcomes.specs.Going.{LosesNothing, GoesOn}
+use Rattle.fr_run_outcomes.specs.Going.{GoesOn}
 use Rattle.std.proofs.lemmas.List.Elements.{All-head, All-tail}
 use Rattle.fr_run_outcomes.proofs.Counts.{among-from_Contains}
+use Rattle.fr_run_outcomes.proofs.Going.{LosesNothing, loses_none}
 
 lost_stays : (who : NodeId) (e : ℕ) (logs : List ℕ) (i : ℕ) → Contains logs i → Contains (lost_with who e logs) i
 lost_stays (node.Cell j) e logs i k = k
@@ -105,4 +106,4 @@ same_lost [] h e lossless = refl
 same_lost (t ∷ more) h e lossless = same_with t e (lost_logs (more ++ h) e) (All-head LosesNothing t more lossless) ∙ same_lost more h e (All-tail LosesNothing t more lossless)
 
 pub still_lost : (c : Config) (b : ℕ) (h later : List Turn) → GoesOn c b h later → (e : ℕ) → lost_logs later e ≡ lost_logs h e
-still_lost c b h later k e = ap (λ l. lost_logs l e) (sym k.is) ∙ same_lost k.more h e k.lossless
+still_lost c b h later k e = ap (λ l. lost_logs l e) (sym k.is) ∙ same_lost k.more h e (loses_none b k.more k.own)

@@ -1,5 +1,5 @@
 -- A log of a chosen epoch that was not locked takes the mark, if it has none yet.
-use Rattle.std.proofs.Common.{◌≡◌, ℕ, ◌+◌, ◌<◌, Bool, true, false, cond, not, nat_lt, max, ◌==◌, ◌&&◌, ◌||◌, List, [], ◌∷◌, ◌++◌, length, Option, None, Some, inl, inr, refl, sym, ◌∙◌, ap, subst, arith}
+use Rattle.std.proofs.Common.{◌≡◌, ℕ, ◌+◌, ◌<◌, Bool, true, false, cond, not, nat_lt, max, ◌==◌, ◌||◌, List, [], ◌∷◌, ◌++◌, Option, None, Some, inl, refl, sym, ◌∙◌, ap, subst, arith}
 use Rattle.std.specs.Prelude.{IfSome, is_some, is_none, fold}
 use Rattle.std.specs.List.{Contains, All, list_any}
 use Rattle.std.proofs.lemmas.Bool.{eq-eqb, le-ltb, ltb-true, true≢false}
@@ -49,7 +49,7 @@ use Rattle.fr_run_headline.proofs.Marks.{logs_are_marked}
 use Rattle.fr_run_headline.proofs.Named.{log_named}
 use Rattle.fr_run_headline.proofs.Tells.{has_push_later}
 use Rattle.fr_run_outcomes.specs.Pending.{PendingIsSent}
-use Rattle.fr_run_outcomes.specs.Going.{LosesNothing, GoesOn}
+use Rattle.fr_run_outcomes.specs.Going.{IsOwn, GoesOn}
 use Rattle.fr_run_outcomes.specs.Marking.{MarksOn, MarkIsHeld}
 use Rattle.fr_run_outcomes.proofs.Lists.{map_has, left_has}
 use Rattle.fr_run_outcomes.proofs.Counts.{Contains-from_among}
@@ -90,7 +90,7 @@ first_marks laws changes c = log_holds laws c (λ h e i l. FirstIsMark l.pushes)
 })
 
 -- so a log that has a push has its epoch's mark first
-has_mark : Laws → AskIsChange → (c : Config) (h : List Turn) → IsRun c h → (e i : ℕ) → i < logs_at c h e → (p : PushContent) (ps : List PushContent) → (log_at c h e i).pushes ≡ p ∷ ps → mark_among (log_at c h e i).pushes ≡ Some (state_of c h e)
+pub has_mark : Laws → AskIsChange → (c : Config) (h : List Turn) → IsRun c h → (e i : ℕ) → i < logs_at c h e → (p : PushContent) (ps : List PushContent) → (log_at c h e i).pushes ≡ p ∷ ps → mark_among (log_at c h e i).pushes ≡ Some (state_of c h e)
 has_mark laws changes c h run e i there p ps is = ap mark_among is ∙ go p.mark refl
   where
     some : is_some p.mark ≡ true
@@ -247,12 +247,12 @@ marks rules c h run b r q at phase plan epoch i up running = go (log_at c h b i)
     asked : (log_at c h b i).pushes ≡ [] → IsRun c (pushed c h b i q ∷ h)
     asked empty = ((up, inl (mark_sent rules c h run b r q at phase plan i below (not_counted rules.laws rules.held c h run b r at i empty)), refl, tt), run)
 
-    further : IsRun c (pushed c h b i q ∷ h) → (a : ℕ) → GoesOn c a h (pushed c h b i q ∷ h)
-    further whole a = record {
+    further : IsRun c (pushed c h b i q ∷ h) → GoesOn c b h (pushed c h b i q ∷ h)
+    further whole = record {
       more = pushed c h b i q ∷ [];
       is = refl;
       is_run = whole;
-      lossless = All-cons LosesNothing (pushed c h b i q) [] (λ who d. absurd (cc)) (All-nil LosesNothing);
+      own = All-cons (IsOwn b) (pushed c h b i q) [] refl (All-nil (IsOwn b));
       low = λ j le. le;
     }
 
@@ -263,12 +263,12 @@ marks rules c h run b r q at phase plan epoch i up running = go (log_at c h b i)
         ap (λ (l : LogState). mark_among l.pushes) (is ∙ takes) ∙ ap (λ ps. mark_among (ps ++ mark_of q ∷ [])) empty ∙ ap Some (sym (state_planned rules.laws c h run b r at q plan))
 
     go : (ps : List PushContent) → (log_at c h b i).pushes ≡ ps → MarksOn c h b i (state_of c h b)
-    go (p ∷ ps) is = record { later = h; goes_on = λ a. stands c a h run; leaves = record { cells = refl; recoverers = λ a. refl; lost = λ a. refl }; up = up; marked = has_mark rules.laws rules.changes c h run b i there p ps is }
+    go (p ∷ ps) is = record { later = h; goes_on = stands c b h run; leaves = record { cells = refl; recoverers = λ a. refl; lost = λ a. refl }; up = up; marked = has_mark rules.laws rules.changes c h run b i there p ps is }
     go [] empty = record {
       later = pushed c h b i q ∷ h;
       goes_on = further (asked empty);
       leaves = record { cells = refl; recoverers = λ a. refl; lost = λ a. refl };
-      up = log_still_up rules.laws c b h (pushed c h b i q ∷ h) (further (asked empty) b) b i up;
+      up = log_still_up rules.laws c b h (pushed c h b i q ∷ h) (further (asked empty)) b i up;
       marked = now empty (asked empty);
     }
 

@@ -1,5 +1,5 @@
 -- A storage server that keeps the latest state peeks at logs that are up until it has all that is committed.
-use Rattle.std.proofs.Common.{◌≡◌, ℕ, zero, suc, drop, ◌+◌, ◌-◌, ◌<◌, ◌≤◌, Bool, true, false, cond, not, nat_lt, min, max, fold, ◌==◌, ◌&&◌, List, [], ◌∷◌, length, Option, None, Some, inl, inr, ◌⊎◌, refl, sym, ◌∙◌, ap, subst, arith}
+use Rattle.std.proofs.Common.{◌≡◌, ℕ, zero, suc, drop, ◌+◌, ◌<◌, ◌≤◌, Bool, true, false, cond, not, nat_lt, min, max, fold, ◌==◌, ◌&&◌, List, [], ◌∷◌, length, Option, None, Some, inl, inr, refl, sym, ◌∙◌, ap, subst, arith}
 use Rattle.std.specs.Prelude.{IfSome, is_some}
 use Rattle.std.specs.List.{Contains, All, range_with_len}
 use Rattle.std.proofs.lemmas.Bool.{cases_eq, eq-eqb, ne_eqb, lt-ltb, le-ltb, ltb-true, ltb-false, true≢false}
@@ -11,7 +11,6 @@ use Rattle.fr_state.specs.Generations.{LogGeneration, CoordinatedState}
 use Rattle.fr_state.specs.LookUp.{source_of, end_of}
 use Rattle.fr_state.specs.Spelling.{spelling}
 use Rattle.fr_tags.specs.Placement.{is_held, log_count}
-use Rattle.fr_log.specs.declared.ask.LogAsk.{LogAsk}
 use Rattle.fr_log.specs.declared.ask.LogAsk.TheVariants.{Peek}
 use Rattle.fr_log.specs.declared.ask.LogRefusal.{LogRefusal}
 use Rattle.fr_log.specs.declared.ask.LogTell.TheVariants.{Peeked}
@@ -22,14 +21,13 @@ use Rattle.fr_log.specs.Refusal.{refusal_of}
 use Rattle.fr_log.specs.Seed.{SeedContent}
 use Rattle.fr_log.specs.Step.{peek_of, answer_of, next_of, next_unless}
 use Rattle.fr_ask.specs.declared.tell.Tell.TheVariants as tell
-use Rattle.fr_epoch.specs.Recoverer.{RecState, Chosen}
 use Rattle.fr_storage.specs.declared.fault.StorageFault.{StorageFault}
 use Rattle.fr_storage.specs.declared.fault.StorageFault.TheVariants.{NotMyGeneration, Hole}
 use Rattle.fr_storage.specs.Position.{PeekedApplied}
 use Rattle.fr_storage.specs.Storage.{StorageState, own_epoch, after_calls, is_epoch, cut_at, peeked_fault, peeked_calls, reached_by, target_of, unless_fault, after_peeked}
 use Rattle.fr_run.specs.Config.{Config, first_epoch, first_state, first_cell}
-use Rattle.fr_run.specs.Turn.{Turn, LogTurn, StorageHeard, Gone, Told, cell_turns}
-use Rattle.fr_run.specs.Nodes.{rec_at, plan_in, generation_at, logs_in, logs_at, log_at, storage_hear, storage_at}
+use Rattle.fr_run.specs.Turn.{Turn, LogTurn, StorageHeard, Told, cell_turns}
+use Rattle.fr_run.specs.Nodes.{plan_in, generation_at, logs_in, logs_at, log_at, storage_hear, storage_at}
 use Rattle.fr_run.specs.Run.{IsUp, IsRun}
 use Rattle.fr_run.specs.States.{state_in, state_of, line_of, pair_of, IsChosenEpoch, IsLatest}
 use Rattle.fr_run.specs.StateLaws.{IsConfig}
@@ -46,10 +44,10 @@ use Rattle.fr_run_headline.proofs.Agreement.{planned_epoch}
 use Rattle.fr_run_headline.proofs.Known.{logs_know}
 use Rattle.fr_run_headline.proofs.Lists.{HasList, planned_list}
 use Rattle.fr_run_headline.proofs.Named.{IsNamed, log_named}
-use Rattle.fr_run_outcomes.specs.Going.{LosesNothing, GoesOn, LeavesChosen, LeavesOthers}
+use Rattle.fr_run_outcomes.specs.Going.{IsOwn, GoesOn, LeavesChosen, LeavesOthers}
 use Rattle.fr_run_outcomes.specs.Hearing.{HearsOn, MarkIsHeard}
 use Rattle.fr_run_outcomes.specs.Marking.{MarksOn, MarkIsHeld}
-use Rattle.fr_run_outcomes.specs.Pulling.{IsServed, PullsOn, CommittedIsPulled, AllPullOn, ChosenIsServed}
+use Rattle.fr_run_outcomes.specs.Pulling.{IsServed, PullsOn, CommittedIsPulled, AllServed, MarkedIsServed, AllPullOn, ChosenIsServed}
 use Rattle.fr_run_outcomes.proofs.Copying.{peek_rises, peeks}
 use Rattle.fr_run_outcomes.proofs.Counts.{below_all}
 use Rattle.fr_run_outcomes.proofs.Going.{stands, goes_further, log_still_up}
@@ -90,7 +88,7 @@ was_chosen c h later k e chosen =
 pub left_latest : (c : Config) (h later : List Turn) → LeavesChosen c h later → (e : ℕ) → IsLatest c h e → IsLatest c later e
 left_latest c h later k e latest = record { chosen = left_chosen c h later k e latest.chosen; greatest = λ d chosen. latest.greatest d (was_chosen c h later k d chosen) }
 
-left_few : (c : Config) (h later : List Turn) → LeavesChosen c h later → (e : ℕ) → AreFewLost c h e → AreFewLost c later e
+pub left_few : (c : Config) (h later : List Turn) → LeavesChosen c h later → (e : ℕ) → AreFewLost c h e → AreFewLost c later e
 left_few c h later k e few =
     subst (All (λ (g : LogGeneration). log_count g.m (lost_logs later g.epoch) < g.k)) (ap (λ (s : CoordinatedState). s.gens) (sym (left_state c h later k e)))
     (All-weaker (λ (g : LogGeneration). log_count g.m (lost_logs h g.epoch) < g.k) (λ (g : LogGeneration). log_count g.m (lost_logs later g.epoch) < g.k)
@@ -210,8 +208,7 @@ pull_from rules c h config e tag target inside k got = record {
     more = hears c h got.source.epoch got.log tag ∷ asks c h got.source.epoch got.log tag ∷ [];
     is = refl;
     is_run = whole;
-    lossless = All-cons LosesNothing (hears c h got.source.epoch got.log tag) (asks c h got.source.epoch got.log tag ∷ []) (λ who d. absurd (cc))
-        (All-cons LosesNothing (asks c h got.source.epoch got.log tag) [] (λ who d. absurd (cc)) (All-nil LosesNothing));
+    own = All-cons (IsOwn b) (hears c h got.source.epoch got.log tag) (asks c h got.source.epoch got.log tag ∷ []) refl (All-cons (IsOwn b) (asks c h got.source.epoch got.log tag) [] tt (All-nil (IsOwn b)));
     low = λ j le. le;
   };
   leaves = leaves;
@@ -424,19 +421,28 @@ serve_all rules hearing c h config b i x k [] inside = record { later = h; goes_
 serve_all rules hearing c h config b i x k (t ∷ tags) inside =
     serve_more rules hearing c h config b i x t tags (All-head (λ u. u < length c.begins) t tags inside) (serve_all rules hearing c h config b i x k tags (All-tail (λ u. u < length c.begins) t tags inside))
 
+pub marked_is_served : PullRules → MarkIsHeard → MarkedIsServed
+marked_is_served rules hearing c h config run e i x latest few up mark =
+    all (serve_all rules hearing c h config e i x (record { run = run; latest = latest; few = few; up = up; marked = mark }) (range_with_len 0 (length c.begins)) (below_all (length c.begins)))
+  where
+    all : TagsServed c e i x h (range_with_len 0 (length c.begins)) → AllServed c h e
+    all k = record {
+      later = k.later;
+      goes_on = k.goes_on;
+      leaves = k.leaves;
+      each = λ tag inside. All-contains (IsServed c k.later e) (range_with_len 0 (length c.begins)) tag k.each (in_range (length c.begins) tag inside);
+    }
+
 pub chosen_is_served : PullRules → MarkIsHeld → MarkIsHeard → ChosenIsServed
 chosen_is_served rules marking hearing c h config run b r at phase latest few i up running = marked (marking c h config run b r at phase i up running)
   where
     marked : MarksOn c h b i (state_of c h b) → AllPullOn c h b
-    marked m = all (serve_all rules hearing c m.later config b i (state_of c h b) now (range_with_len 0 (length c.begins)) (below_all (length c.begins)))
+    marked m = all (marked_is_served rules hearing c m.later config m.goes_on.is_run b i (state_of c h b) (left_latest c h m.later m.leaves b latest) (left_few c h m.later m.leaves b few) m.up m.marked)
       where
-        now : IsMarked c b i (state_of c h b) m.later
-        now = record { run = (m.goes_on b).is_run; latest = left_latest c h m.later m.leaves b latest; few = left_few c h m.later m.leaves b few; up = m.up; marked = m.marked }
-
-        all : TagsServed c b i (state_of c h b) m.later (range_with_len 0 (length c.begins)) → AllPullOn c h b
+        all : AllServed c m.later b → AllPullOn c h b
         all k = record {
           later = k.later;
-          goes_on = λ a. goes_further c a h m.later k.later (m.goes_on a) (k.goes_on a);
+          goes_on = goes_further c b h m.later k.later m.goes_on (k.goes_on b);
           leaves = left_further c h m.later k.later m.leaves k.leaves;
-          each = λ tag inside. All-contains (IsServed c k.later b) (range_with_len 0 (length c.begins)) tag k.each (in_range (length c.begins) tag inside);
+          each = k.each;
         }

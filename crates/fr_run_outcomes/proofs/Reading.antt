@@ -35,7 +35,7 @@ use Rattle.fr_run.specs.Laws.{Laws}
 use Rattle.fr_run.proofs.Cells.{Contains-cases}
 use Rattle.fr_run_headline.specs.LogLaws.{tally}
 use Rattle.fr_run_outcomes.specs.Lost.{LostOnlySo}
-use Rattle.fr_run_outcomes.specs.Going.{LosesNothing, GoesOn}
+use Rattle.fr_run_outcomes.specs.Going.{IsOwn, GoesOn}
 use Rattle.fr_run_outcomes.specs.Reading.{pair_at, ReadingEnds}
 use Rattle.fr_run_outcomes.proofs.Going.{IsHeard, goes_further, cell_heard, rec_still_up, still_sent, never_gone}
 use Rattle.fr_run_outcomes.proofs.Lists.{in_range, map_has}
@@ -338,7 +338,7 @@ reading_ends laws only c h config run b shape none may is_shape top who majority
       more = Begun b shape (pending (new_recoverer b c.cells c.begins shape)) ∷ [];
       is = refl;
       is_run = run_then;
-      lossless = All-cons LosesNothing (Begun b shape (pending (new_recoverer b c.cells c.begins shape))) [] (λ x e. absurd (cc)) (All-nil LosesNothing);
+      own = All-cons (IsOwn b) (Begun b shape (pending (new_recoverer b c.cells c.begins shape))) [] refl (All-nil (IsOwn b));
       low = λ i le. le;
     }
 

@@ -1,6 +1,6 @@
 -- A ballot that begins comes to be chosen, if each phase of its recovery goes on.
 use Rattle.std.proofs.Common.{◌≡◌, ℕ, ◌<◌, ◌≤◌, Bool, true, false, cond, nat_lt, ◌==◌, List, [], ◌∷◌, None, Some, inl, inr, ◌⊎◌, refl, sym, ◌∙◌, ap, subst, arith}
-use Rattle.std.specs.Prelude.{is_some}
+use Rattle.std.specs.Prelude.{is_some, Ok}
 use Rattle.std.specs.List.{Contains}
 use Rattle.std.proofs.lemmas.Bool.{le-ltb, eqb-true, true≢false}
 use Rattle.std.proofs.lemmas.List.Elements.{All-weaker}
@@ -9,9 +9,12 @@ use Rattle.fr_register.specs.Poll.{Stamped, ReadState}
 use Rattle.fr_tags.specs.Placement.{log_count, covers, is_held}
 use Rattle.fr_tags.specs.CoverLaw.{CoveringMeetsEachTag}
 use Rattle.fr_state.specs.Reading.{reading}
+use Rattle.fr_log.specs.Law.{AskIsChange}
+use Rattle.fr_epoch.specs.Change.{IsFound}
 use Rattle.fr_epoch.specs.declared.reply.Reply.{Reply}
 use Rattle.fr_epoch.specs.EndTally.{EndState, responders}
 use Rattle.fr_epoch.specs.Recoverer.{RecState, Parent, Plan}
+use Rattle.fr_run.specs.AskLaws.{SentIsAccounted}
 use Rattle.fr_run.specs.Config.{Config, first_epoch}
 use Rattle.fr_run.specs.Turn.{Turn, Gone}
 use Rattle.fr_run.specs.Nodes.{cell_at, rec_at, plan_in, plan_at, logs_in, logs_at}
@@ -25,13 +28,15 @@ use Rattle.fr_run_headline.proofs.Ends.{end_is_of_replies}
 use Rattle.fr_run_headline.proofs.Logs.{absent_before}
 use Rattle.fr_run_outcomes.specs.Going.{GoesOn}
 use Rattle.fr_run_outcomes.specs.Reading.{pair_at, ReadsOn, ReadingEnds}
-use Rattle.fr_run_outcomes.specs.Locking.{IsFewLost, RepliedAreUp, HasPlan, HasNoRoom, LocksOn, LockingEnds}
+use Rattle.fr_run_outcomes.specs.Locking.{IsFewLost, RepliedAreUp, HasPlan, LacksRoom, LocksOn, LockingEnds}
 use Rattle.fr_run_outcomes.specs.Copying.{HolderIsUp, CopiesOn, CopyingEnds, SeedsOn, SeedingEnds}
 use Rattle.fr_run_outcomes.specs.Writing.{WritesOn, WritingEnds}
-use Rattle.fr_run_outcomes.specs.Recovering.{RecoversOn, NoDeadEnd}
+use Rattle.fr_run_outcomes.specs.Recovering.{HasRoom, RecoversOn, NoDeadEnd, FillsOn, RecoveryEnds}
 use Rattle.fr_run_outcomes.proofs.Going.{goes_further, still_up, rec_still_up, reads_stay}
 use Rattle.fr_run_outcomes.proofs.Lose.{still_lost}
 use Rattle.fr_run_outcomes.proofs.Copies.{IsOfReplies, made_from, of_replies}
+use Rattle.fr_run_outcomes.proofs.Locking.{other_last}
+use Rattle.fr_run_outcomes.proofs.Rooms.{room_left}
 
 -- a log that was never there is not gone
 pub no_log_gone : Laws → (c : Config) (h : List Turn) → IsRun c h → (e i : ℕ) → nat_lt i (logs_at c h e) ≡ false → Contains h (Gone (node.Log e i)) → ⊥
@@ -79,6 +84,8 @@ holders_up laws meets c h run b r p q at parent plan up tag = record {
 -- the laws of the phases
 pub record Phases : Type 0 where
   pub laws : Laws
+  pub changes : AskIsChange
+  pub accounted : SentIsAccounted
   pub meets : CoveringMeetsEachTag
   pub read : ParentIsRead
   pub reading : ReadingEnds
@@ -87,16 +94,21 @@ pub record Phases : Type 0 where
   pub seeding : SeedingEnds
   pub writing : WritingEnds
 
-pub no_dead_end : Phases → NoDeadEnd
-no_dead_end k c h config run b shape none may is_shape first others majority low below left = go locked.ended
+pub recovery_ends : Phases → RecoveryEnds
+recovery_ends k c h config run b shape none may is_shape first others majority low below left = go locked.ended
   where
     found : ReadsOn c h b first
     found = k.reading c h config run b shape none may is_shape first others majority low below
 
+    read : IsFound found.recoverer found.parent.state found.parent.last
+    read = k.read c found.later found.goes_on.is_run b found.recoverer found.parent found.at found.parent_is
+
+    value : reading (pair_at c h first).value ≡ Ok found.parent.state
+    value = ap (λ (s : Stamped). reading s.value) (sym found.found) ∙ read.value
+
     few : IsFewLost found.later found.parent.last
     few =
-        let read = k.read c found.later found.goes_on.is_run b found.recoverer found.parent found.at found.parent_is in
-        let mine = left found.parent.state found.parent.last (ap (λ (s : Stamped). reading s.value) (sym found.found) ∙ read.value) read.last in
+        let mine = left found.parent.state found.parent.last value read.last in
         subst (λ xs. log_count found.parent.last.m xs < found.parent.last.k) (sym (still_lost c b h found.later found.goes_on found.parent.last.epoch)) mine
 
     locked : LocksOn c found.later b found.parent found.recoverer
@@ -112,6 +124,12 @@ no_dead_end k c h config run b shape none may is_shape first others majority low
     was_found : (later : List Turn) → GoesOn c b found.later later → (n : RecState) → rec_at c later b ≡ Some n → n.reads.greatest ≡ pair_at c h first
     was_found later k' n there = ap (λ (x : ReadState). x.greatest) (reads_stay k.laws c b found.later later k' b found.recoverer found.at (ap is_some found.parent_is) n there) ∙ found.found
 
+    -- what lacked room when its parent was found lacked it at the start
+    full : LacksRoom c found.later found.parent locked.recoverer → HasRoom c h first → ⊥
+    full lacks room =
+        lacks.never (room_left k.laws k.changes k.accounted c b h found.later found.goes_on found.parent.state found.parent.last
+        (other_last k.laws c found.later config found.goes_on.is_run b found.recoverer found.parent found.at found.parent_is) (room found.parent.state found.parent.last value read.last))
+
     from_plan : HasPlan locked.recoverer → RecoversOn c h b first
     from_plan (phase, (q, plan)) = record {
       later = written.later;
@@ -119,7 +137,7 @@ no_dead_end k c h config run b shape none may is_shape first others majority low
       recoverer = written.recoverer;
       at = written.at;
       found = was_found written.later (goes_further c b found.later seeded.later written.later (goes_further c b found.later copied.later seeded.later (goes_further c b found.later locked.later copied.later locked.goes_on copied.goes_on) seeded.goes_on) written.goes_on) written.recoverer written.at;
-      ended = inl written.chosen;
+      chosen = written.chosen;
     }
       where
         copied : CopiesOn c locked.later b
@@ -141,6 +159,13 @@ no_dead_end k c h config run b shape none may is_shape first others majority low
             (rec_still_up k.laws c b found.later seeded.later (goes_further c b found.later copied.later seeded.later (goes_further c b found.later locked.later copied.later locked.goes_on copied.goes_on) seeded.goes_on) b found.up)
             (first ∷ others) majority (All-weaker (λ i. (cell_at c h i).promised ≤ b) (λ i. (cell_at c seeded.later i).promised ≤ b) to_seeded.low (first ∷ others) low)
 
-    go : HasPlan locked.recoverer ⊎ HasNoRoom locked.recoverer → RecoversOn c h b first
-    go (inl planned) = from_plan planned
-    go (inr room) = record { later = locked.later; goes_on = to_locked; recoverer = locked.recoverer; at = locked.at; found = was_found locked.later locked.goes_on locked.recoverer locked.at; ended = inr room }
+    go : HasPlan locked.recoverer ⊎ LacksRoom c found.later found.parent locked.recoverer → RecoversOn c h b first ⊎ FillsOn c h b first
+    go (inl planned) = inl (from_plan planned)
+    go (inr lacks) = inr (record { later = locked.later; goes_on = to_locked; recoverer = locked.recoverer; at = locked.at; found = was_found locked.later locked.goes_on locked.recoverer locked.at; room = lacks.found; full = full lacks })
+
+-- so where there is room it is chosen
+pub no_dead_end : Phases → NoDeadEnd
+no_dead_end k c h config run b shape none may is_shape first others majority low below left room = elim (recovery_ends k c h config run b shape none may is_shape first others majority low below left) [
+  | inl chosen ↦ chosen
+  | inr fills ↦ absurd (fills.full room)
+]

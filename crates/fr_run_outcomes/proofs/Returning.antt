@@ -1,5 +1,5 @@
 -- A recovery that is chosen is the latest, no log of it is locked or lost, so it comes to serve.
-use Rattle.std.proofs.Common.{◌≡◌, ℕ, drop, ◌<◌, ◌≤◌, Bool, true, false, cond, nat_lt, ◌==◌, map, filter, List, [], ◌∷◌, ◌++◌, length, Option, None, Some, inl, inr, ◌⊎◌, refl, sym, ◌∙◌, ap, subst, arith}
+use Rattle.std.proofs.Common.{◌≡◌, ℕ, drop, ◌<◌, ◌≤◌, Bool, true, false, cond, nat_lt, ◌==◌, ◌||◌, map, filter, List, [], ◌∷◌, length, Option, None, Some, inl, inr, ◌⊎◌, refl, sym, ◌∙◌, ap, subst, arith}
 use Rattle.std.specs.Prelude.{is_some}
 use Rattle.std.specs.List.{Contains, All, range_with_len}
 use Rattle.std.specs.Option.{option_map}
@@ -13,7 +13,7 @@ use Rattle.fr_register.specs.Poll.{Stamped}
 use Rattle.fr_register.specs.Tally.{is_heard}
 use Rattle.fr_register.specs.declared.ask.CellAsk.TheVariants.{Read, Write}
 use Rattle.fr_register.proofs.Majorities.{shared}
-use Rattle.fr_state.specs.Generations.{LogGeneration, CoordinatedState, IsCoordinatedState}
+use Rattle.fr_state.specs.Generations.{CoordinatedState, IsCoordinatedState}
 use Rattle.fr_state.specs.Reading.{reading}
 use Rattle.fr_state.specs.Spelling.{spelling}
 use Rattle.fr_tags.specs.Placement.{is_held, log_count, is_among}
@@ -53,16 +53,15 @@ use Rattle.fr_run.proofs.States.{last_is}
 use Rattle.fr_run_headline.specs.Retrievable.{lost_logs, AreFewLost}
 use Rattle.fr_run_headline.specs.SeededLaws.{IsSeededEpoch, WritingIsSeeded}
 use Rattle.fr_run_headline.proofs.LogRule.{log_holds}
-use Rattle.fr_run_outcomes.specs.Going.{GoesOn}
-use Rattle.fr_run_outcomes.specs.Locking.{IsFewLost, HasNoRoom}
-use Rattle.fr_run_outcomes.specs.Recovering.{RecoversOn, NoDeadEnd}
+use Rattle.fr_run_outcomes.specs.Locking.{IsFewLost}
+use Rattle.fr_run_outcomes.specs.Recovering.{RecoversOn, RecoveryEnds}
 use Rattle.fr_run_outcomes.specs.Pulling.{AllPullOn, ChosenIsServed}
-use Rattle.fr_run_outcomes.specs.Returning.{HasEachLeft, ServesOn, FillsOn, ServiceReturns}
+use Rattle.fr_run_outcomes.specs.Returning.{HasEachLeft, LowIsUnlocked, ServesOn, ServiceReturns, ServiceReturnsOrIsFull}
 use Rattle.fr_run_outcomes.proofs.Lists.{map_from, flat_from}
 use Rattle.fr_run_outcomes.proofs.Counts.{count_by-range, count_short}
 use Rattle.fr_run_outcomes.proofs.Going.{goes_further, still_up}
 use Rattle.fr_run_outcomes.proofs.Lose.{still_lost, none_lost}
-use Rattle.fr_run_outcomes.proofs.Pulling.{left_latest}
+use Rattle.fr_run_outcomes.proofs.Pulling.{left_latest, left_few}
 use Rattle.fr_run_outcomes.proofs.Recovering.{no_log_gone, none_there}
 
 -- what holds of the nodes
@@ -78,7 +77,7 @@ pub record ReturnRules : Type 0 where
   pub planned : ParentIsPlanned
   pub states : RecoverersHaveStates
   pub seeded : WritingIsSeeded
-  pub recovers : NoDeadEnd
+  pub recovers : RecoveryEnds
   pub served : ChosenIsServed
 
 -- ---- the latest
@@ -278,7 +277,7 @@ stopped_by rules c = log_holds rules.laws c (λ h e i l. StoppedBy h e i l) (rec
 })
 
 -- while no cell of a majority promised more than a ballot, no log of its epoch is locked
-unlocked : ReturnRules → (c : Config) (h : List Turn) → IsConfig c → IsRun c h → (b : ℕ) (r : RecState) → rec_at c h b ≡ Some r → (who : List ℕ) → IsMajority c.cells who → AreLow c h b who → (i : ℕ) → i < logs_at c h b → (log_at c h b i).stopped ≡ false
+pub unlocked : ReturnRules → LowIsUnlocked
 unlocked rules c h config run b r at who majority low i there = go (log_at c h b i).stopped refl
   where
     never : (a : ℕ) × (x : ℕ) × Sent h (node.Recoverer a) (node.Log b i) (ask.Log (Lock x)) → ⊥
@@ -336,49 +335,61 @@ few_left rules c h config run b first may none left o q plan =
 
 -- ---- service
 
-pub service_returns : ReturnRules → ServiceReturns
-service_returns rules c h config run b shape none may is_shape first others majority low below left = ended recovered.ended
+-- after a recovery
+serves_after : ReturnRules → (c : Config) (h : List Turn) → IsConfig c → IsRun c h → (b : ℕ) → rec_at c h b ≡ None → MayBegin b → (first : ℕ) (others : List ℕ) → IsMajority c.cells (first ∷ others) → AreLow c h b (first ∷ others) → HasEachLeft c h first
+    → RecoversOn c h b first → ServesOn c h b first
+serves_after rules c h config run b none may first others majority low left recovered = by recovered.recoverer.plan refl written
   where
-    recovered : RecoversOn c h b first
-    recovered = rules.recovers c h config run b shape none may is_shape first others majority low below (λ s g read last. last_is (IsFewLost h) s.gens g last (left s read))
-
     still_low : AreLow c recovered.later b (first ∷ others)
     still_low = All-weaker (λ i. (cell_at c h i).promised ≤ b) (λ i. (cell_at c recovered.later i).promised ≤ b) recovered.goes_on.low (first ∷ others) low
 
-    served : recovered.recoverer.phase ≡ Chosen → ServesOn c h b
-    served phase = by recovered.recoverer.plan refl written
-      where
-        written : is_written_in recovered.recoverer.plan recovered.recoverer.seeded ≡ true
-        written = (rec_is rules.laws c recovered.later recovered.goes_on.is_run b recovered.recoverer recovered.at).kept.come_by.chosen phase
+    written : is_written_in recovered.recoverer.plan recovered.recoverer.seeded ≡ true
+    written = (rec_is rules.laws c recovered.later recovered.goes_on.is_run b recovered.recoverer recovered.at).kept.come_by.chosen recovered.chosen
 
-        opened : is_open c recovered.later b ≡ true
-        opened = or_right (b == first_epoch) (is_open_in (rec_at c recovered.later b)) (ap is_open_in recovered.at ∙ ap is_chosen_phase phase)
+    opened : is_open c recovered.later b ≡ true
+    opened = or_right (b == first_epoch) (is_open_in (rec_at c recovered.later b)) (ap is_open_in recovered.at ∙ ap is_chosen_phase recovered.chosen)
 
-        latest : IsLatest c recovered.later b
-        latest = is_latest rules c recovered.later recovered.goes_on.is_run b (rules.opened c recovered.later recovered.goes_on.is_run b opened) (first ∷ others) majority still_low
+    latest : IsLatest c recovered.later b
+    latest = is_latest rules c recovered.later recovered.goes_on.is_run b (rules.opened c recovered.later recovered.goes_on.is_run b opened) (first ∷ others) majority still_low
 
-        epoch : IsSeededEpoch c recovered.later b
-        epoch = rules.seeded c recovered.later config recovered.goes_on.is_run b recovered.recoverer recovered.at written
+    epoch : IsSeededEpoch c recovered.later b
+    epoch = rules.seeded c recovered.later config recovered.goes_on.is_run b recovered.recoverer recovered.at written
 
-        there : 0 < logs_at c recovered.later b
-        there = (let logs = epoch.logs in let some = epoch.some in omega (arith, logs, some))
+    there : 0 < logs_at c recovered.later b
+    there = (let logs = epoch.logs in let some = epoch.some in omega (arith, logs, some))
 
-        up : IsUp c recovered.later (node.Log b 0)
-        up = record { there = lt-ltb 0 (logs_at c recovered.later b) there; up = still_up c b h recovered.later recovered.goes_on (node.Log b 0) (no_log_gone rules.laws c h run b 0 (none_there c h b 0 may none)) }
+    up : IsUp c recovered.later (node.Log b 0)
+    up = record { there = lt-ltb 0 (logs_at c recovered.later b) there; up = still_up c b h recovered.later recovered.goes_on (node.Log b 0) (no_log_gone rules.laws c h run b 0 (none_there c h b 0 may none)) }
 
-        pulled : AllPullOn c recovered.later b → ServesOn c h b
-        pulled k = record {
-          later = k.later;
-          goes_on = goes_further c b h recovered.later k.later recovered.goes_on (k.goes_on b);
-          latest = left_latest c recovered.later k.later k.leaves b latest;
-          each = k.each;
-        }
+    pulled : AreFewLost c recovered.later b → AllPullOn c recovered.later b → ServesOn c h b first
+    pulled few k = record {
+      later = k.later;
+      goes_on = goes_further c b h recovered.later k.later recovered.goes_on k.goes_on;
+      recoverer = recovered.recoverer;
+      at = k.leaves.recoverers b ∙ recovered.at;
+      found = recovered.found;
+      chosen = recovered.chosen;
+      latest = left_latest c recovered.later k.later k.leaves b latest;
+      opened = ap (λ o. (b == first_epoch) || is_open_in o) (k.leaves.recoverers b) ∙ opened;
+      few = left_few c recovered.later k.later k.leaves b few;
+      each = k.each;
+    }
 
-        by : (o : Option Plan) → recovered.recoverer.plan ≡ o → is_written_in o recovered.recoverer.seeded ≡ true → ServesOn c h b
-        by None plan e = absurd (true≢false (sym e))
-        by (Some q) plan e = pulled (rules.served c recovered.later config recovered.goes_on.is_run b recovered.recoverer recovered.at phase latest (few_left rules c h config run b first may none left recovered q plan) 0 up
-            (unlocked rules c recovered.later config recovered.goes_on.is_run b recovered.recoverer recovered.at (first ∷ others) majority still_low 0 there))
+    by : (o : Option Plan) → recovered.recoverer.plan ≡ o → is_written_in o recovered.recoverer.seeded ≡ true → ServesOn c h b first
+    by None plan e = absurd (true≢false (sym e))
+    by (Some q) plan e = pulled (few_left rules c h config run b first may none left recovered q plan)
+        (rules.served c recovered.later config recovered.goes_on.is_run b recovered.recoverer recovered.at recovered.chosen latest (few_left rules c h config run b first may none left recovered q plan) 0 up
+        (unlocked rules c recovered.later config recovered.goes_on.is_run b recovered.recoverer recovered.at (first ∷ others) majority still_low 0 there))
 
-    ended : (recovered.recoverer.phase ≡ Chosen) ⊎ HasNoRoom recovered.recoverer → ServesOn c h b ⊎ FillsOn c h b
-    ended (inl phase) = inl (served phase)
-    ended (inr room) = inr (record { later = recovered.later; goes_on = recovered.goes_on; recoverer = recovered.recoverer; at = recovered.at; room = room })
+pub returns_or_is_full : ReturnRules → ServiceReturnsOrIsFull
+returns_or_is_full rules c h config run b shape none may is_shape first others majority low below left =
+    elim (rules.recovers c h config run b shape none may is_shape first others majority low below (λ s g read last. last_is (IsFewLost h) s.gens g last (left s read))) [
+      | inl recovered ↦ inl (serves_after rules c h config run b none may first others majority low left recovered)
+      | inr fills ↦ inr fills
+    ]
+
+pub service_returns : ReturnRules → ServiceReturns
+service_returns rules c h config run b shape none may is_shape first others majority low below left room = elim (returns_or_is_full rules c h config run b shape none may is_shape first others majority low below left) [
+  | inl serves ↦ serves
+  | inr fills ↦ absurd (fills.full room)
+]

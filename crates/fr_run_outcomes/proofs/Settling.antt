@@ -31,7 +31,7 @@ use Rattle.fr_run_headline.specs.BehindLaws.{BelowStaysBelow, ChosenStaysBelow}
 use Rattle.fr_run_headline.specs.SeededLaws.{ChosenIsSeeded}
 use Rattle.fr_run_headline.proofs.Acks.{below_later}
 use Rattle.fr_run_headline.proofs.Asked.{marked_is_chosen, peeked_is_own}
-use Rattle.fr_run_headline.specs.Issued.{issued, least_durable, committed}
+use Rattle.fr_run_headline.specs.Issued.{issued, least_durable}
 use Rattle.fr_run_headline.specs.Contents.{IsTrueTell}
 use Rattle.fr_run_headline.proofs.IssuedLists.{version_of}
 use Rattle.fr_run_headline.proofs.Lists.{planned_list, planned_line_stays}

@@ -17,7 +17,7 @@ pub record HolderIsUp (h : List Turn) (p : Parent) (q : Plan) (tag : ℕ) : Type
   pub holds : is_held tag q.tail.m q.tail.k log ≡ true
   pub up : Contains h (Gone (node.Log p.last.epoch log)) → ⊥
 
--- a run goes on without a loss to a moment at which the recoverer of a ballot has copied all that its epoch takes over
+-- a run goes on by own turns of a ballot to a moment at which its recoverer has copied all that its epoch takes over
 pub record CopiesOn (c : Config) (h : List Turn) (b : ℕ) : Type 0 where
   pub later : List Turn
   pub goes_on : GoesOn c b h later
@@ -32,7 +32,7 @@ CopyingEnds =
     (c : Config) (h : List Turn) → IsConfig c → IsRun c h → (b : ℕ) (r : RecState) (p : Parent) (q : Plan) → rec_at c h b ≡ Some r → r.phase ≡ Copying → r.parent ≡ Some p → r.plan ≡ Some q
     → IsUp c h (node.Recoverer b) → ((tag : ℕ) → tag < length c.begins → HolderIsUp h p q tag) → CopiesOn c h b
 
--- a run goes on without a loss to a moment at which all logs of the new generation are seeded, and the recoverer of its ballot writes its state
+-- a run goes on by own turns of a ballot to a moment at which all logs of its generation are seeded, and its recoverer writes its state
 pub record SeedsOn (c : Config) (h : List Turn) (b : ℕ) : Type 0 where
   pub later : List Turn
   pub goes_on : GoesOn c b h later

@@ -17,7 +17,7 @@ use Rattle.fr_run_outcomes.specs.Going.{GoesOn}
 abbrev pub pair_at : Config → List Turn → ℕ → Stamped
 pair_at c h i = record { ballot = (cell_at c h i).written; value = (cell_at c h i).value }
 
--- a run goes on without a loss to a moment at which the recoverer of a ballot has found its parent, in the pair of one cell, and locks its logs
+-- a run goes on by own turns of a ballot to a moment at which its recoverer has found its parent, in the pair of one cell, and locks its logs
 pub record ReadsOn (c : Config) (h : List Turn) (b cell : ℕ) : Type 0 where
   pub later : List Turn
   pub goes_on : GoesOn c b h later

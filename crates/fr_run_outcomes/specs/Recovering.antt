@@ -11,27 +11,50 @@ use Rattle.fr_run.specs.Nodes.{cell_at, rec_at}
 use Rattle.fr_run.specs.Run.{MayBegin, IsRun}
 use Rattle.fr_run.specs.StateLaws.{IsConfig}
 use Rattle.fr_run_outcomes.specs.Going.{GoesOn}
-use Rattle.fr_run_outcomes.specs.Locking.{IsFewLost, HasNoRoom}
+use Rattle.fr_run_outcomes.specs.Locking.{IsFewLost, HasNoRoom, HasRoomIn}
 use Rattle.fr_run_outcomes.specs.Reading.{pair_at}
 
 -- of the last generation of the state that a cell has fewer than k logs are lost
 abbrev pub HasLogsLeft : Config → List Turn → ℕ → Type 0
 HasLogsLeft c h i = (s : CoordinatedState) (g : LogGeneration) → reading (cell_at c h i).value ≡ Ok s → last_of s.gens ≡ Some g → IsFewLost h g
 
--- a run goes on without a loss to a moment at which the state of a ballot is chosen, or its recoverer has found that there is no room. What it read is the pair
--- of one cell
+-- after the state that a cell has there is room
+abbrev pub HasRoom : Config → List Turn → ℕ → Type 0
+HasRoom c h i = (s : CoordinatedState) (g : LogGeneration) → reading (cell_at c h i).value ≡ Ok s → last_of s.gens ≡ Some g → HasRoomIn c h s g
+
+-- a run goes on by own turns of a ballot to a moment at which its state is chosen, and its recoverer knows it. What it read
+-- is the pair of one cell
 pub record RecoversOn (c : Config) (h : List Turn) (b cell : ℕ) : Type 0 where
   pub later : List Turn
   pub goes_on : GoesOn c b h later
   pub recoverer : RecState
   pub at : rec_at c later b ≡ Some recoverer
   pub found : recoverer.reads.greatest ≡ pair_at c h cell
-  pub ended : (recoverer.phase ≡ Chosen) ⊎ HasNoRoom recoverer
+  pub chosen : recoverer.phase ≡ Chosen
 
 -- so does each one, for each ballot that may begin and above which no cell of some majority promised, if the greatest state that these cells have, that of the
--- first one, has logs left
+-- first one, has logs left, and after it there is room
 abbrev pub NoDeadEnd : Type 0
 NoDeadEnd =
     (c : Config) (h : List Turn) → IsConfig c → IsRun c h → (b : ℕ) (shape : Option ShapeContent) → rec_at c h b ≡ None → MayBegin b → IfSome shape IsShape
     → (first : ℕ) (others : List ℕ) → IsMajority c.cells (first ∷ others) → All (λ i. (cell_at c h i).promised ≤ b) (first ∷ others)
-    → All (λ i. (cell_at c h i).written ≤ (cell_at c h first).written) others → HasLogsLeft c h first → RecoversOn c h b first
+    → All (λ i. (cell_at c h i).written ≤ (cell_at c h first).written) others → HasLogsLeft c h first → HasRoom c h first → RecoversOn c h b first
+
+-- a run goes on by own turns of a ballot to a moment at which its recoverer has found that there is no room. There was
+-- none at the start: nothing that happened on the way took it
+pub record FillsOn (c : Config) (h : List Turn) (b cell : ℕ) : Type 0 where
+  pub later : List Turn
+  pub goes_on : GoesOn c b h later
+  pub recoverer : RecState
+  pub at : rec_at c later b ≡ Some recoverer
+  pub found : recoverer.reads.greatest ≡ pair_at c h cell
+  pub room : HasNoRoom recoverer
+  pub full : HasRoom c h cell → ⊥
+
+-- without room each one goes on to such a moment or, if the recovery drops generations of which the storage servers have
+-- all for good, to a choice
+abbrev pub RecoveryEnds : Type 0
+RecoveryEnds =
+    (c : Config) (h : List Turn) → IsConfig c → IsRun c h → (b : ℕ) (shape : Option ShapeContent) → rec_at c h b ≡ None → MayBegin b → IfSome shape IsShape
+    → (first : ℕ) (others : List ℕ) → IsMajority c.cells (first ∷ others) → All (λ i. (cell_at c h i).promised ≤ b) (first ∷ others)
+    → All (λ i. (cell_at c h i).written ≤ (cell_at c h first).written) others → HasLogsLeft c h first → RecoversOn c h b first ⊎ FillsOn c h b first

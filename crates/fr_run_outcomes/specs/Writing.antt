@@ -10,7 +10,7 @@ use Rattle.fr_run.specs.Run.{IsUp, IsRun}
 use Rattle.fr_run.specs.StateLaws.{IsConfig}
 use Rattle.fr_run_outcomes.specs.Going.{GoesOn}
 
--- a run goes on without a loss to a moment at which the state of a ballot is chosen, and its recoverer knows it
+-- a run goes on by own turns of a ballot to a moment at which its state is chosen, and its recoverer knows it
 pub record WritesOn (c : Config) (h : List Turn) (b : ℕ) : Type 0 where
   pub later : List Turn
   pub goes_on : GoesOn c b h later

@@ -1,4 +1,4 @@
-use Rattle.fr_run_outcomes.proofs.Returning.{ReturnRules, service_returns}
+use Rattle.fr_run_outcomes.proofs.Returning.{ReturnRules, unlocked, returns_or_is_full, service_returns}
 use Rattle.fr_run_outcomes.proofs.progress.return_law.Goals as goal
 
 pub returns : goal.returns
@@ -15,7 +15,7 @@ returns c =
       planned = c.line_law.ensures.planned;
       states = c.states_law.ensures.states;
       seeded = c.seeded_law.ensures.writing;
-      recovers = c.recovery_law.ensures;
+      recovers = c.recovery_law.ensures.ended;
       served = c.pulling_law.ensures.served;
     } in
-    service_returns rules
+    record { served = service_returns rules; ended = returns_or_is_full rules; unlocked = unlocked rules }
