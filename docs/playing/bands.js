@@ -13,6 +13,17 @@ function tag(name, attributes = {}, ...inside) {
 }
 
 const text = (x, y, words, kind = "", more = {}) => tag("text", { x, y, class: kind, ...more }, escaped(words));
+/** A text that says more where one points at it. */
+const hinted = (x, y, words, kind, hint) => tag("text", { x, y, class: `${kind} hinted` }, tag("title", {}, escaped(hint)), escaped(words));
+
+const VERSIONS = "The numbers above the lanes are versions, the places of batches in the order of commits: the mark of each " +
+  "epoch takes a version too, so batch 1 has version 2. The number in a box is the batch's own.";
+
+/** What an epoch is called outside of this page. */
+function epochHint(number) {
+  return `Epoch ${number} of this page is epoch ${ballotOf(number)} in exported journals. There an epoch has the number of ` +
+    `the ballot that opened it, round × 256 + recoverer: here round ${number} of recoverer 1.`;
+}
 
 const TALL = 20, PILL = 19;
 
@@ -75,7 +86,7 @@ class Bands {
     const [words, kind] = this.standing(it);
     this.under.push(
       tag("rect", { x: pad, y, width: width - 2 * pad, height, rx: 12, class: `band ${kind}` }),
-      text(pad + 12, y + 19, `Epoch ${epochOf(it.epoch)}`, "epoch"),
+      hinted(pad + 12, y + 19, `Epoch ${epochOf(it.epoch)}`, "epoch", epochHint(epochOf(it.epoch))),
       text(pad + 92, y + 19, this.cut(words, width - 244), `standing ${kind}`),
       text(width - pad - 12, y + 19, `m = ${m}, k = ${k}`, "shape")
     );

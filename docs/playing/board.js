@@ -60,8 +60,8 @@ class Board extends Bands {
     return version >= this.from && version <= this.upto;
   }
   axis(y) {
-    const shown = [];
-    for (let at = this.from; at <= this.upto; at++) shown.push(text(this.xOf(at), y, at, "axis"));
+    const shown = [hinted(this.left - 6, y, "versions", "axis name", VERSIONS)];
+    for (let at = this.from; at <= this.upto; at++) shown.push(hinted(this.xOf(at), y, at, "axis", VERSIONS));
     return shown;
   }
 

@@ -56,7 +56,8 @@ Object.assign(Page.prototype, {
     const link = element("a", "", { href: URL.createObjectURL(blob), download: name });
     link.click();
     URL.revokeObjectURL(link.href);
-    this.say(`${name} has the journals of all nodes. bench/judge < ${name} says whether they kept the rules.`);
+    const judged = `bench/judge < ${name} says whether they kept the rules.`;
+    this.say(`${name} has the journals of all nodes: ${judged} Epochs 1 and 2 are 257 and 513 there.`);
   },
   async share() {
     const text = location.href.split("#")[0] + this.address();

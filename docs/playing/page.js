@@ -337,6 +337,8 @@ class Page {
   }
   buttons() {
     at("play").textContent = this.isPlaying ? "❚❚ Pause" : "▶ Play";
+    at("storm").textContent = this.storm ? "■ Stop" : "Storm";
+    at("storm").title = this.storm ? "Stop the storm (w)" : "Choices by chance: losses, crashes, recoveries (w)";
     at("storm").setAttribute("aria-pressed", Boolean(this.storm));
     at("undo").disabled = !this.choices.length;
   }

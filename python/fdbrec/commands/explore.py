@@ -5,7 +5,8 @@ simulate`, whose steps are then played here by the rules of docs/PROTOCOL.md (fd
 Open the page in a browser. Its head has the verdict and NAME, which is `standard input` unless it is said. Below is the
 whole run at a glance: epochs, recoveries, rollbacks, crashes and versions. Then come lanes by node with messages as
 arrows, the state of the chosen node at each step, and a search. The page works all of it out by an independent reading
-of the rules (fdbrec/exploring), and opens at the first fault of the journals, if they have one.
+of the rules (fdbrec/exploring). It opens at the first fault of the journals, else where the first recovery begins,
+else at the end.
 
 The address of the page follows the moment. Behind its # may stand step=N, node=NAME, find=TEXT, news=0 or 1, scale=N
 and theme=dark or light, with & in between. What is no script is refused as the program does it, `bad script` with the
@@ -16,20 +17,28 @@ import base64
 import html
 import json
 import os
+import struct
 import zlib
+from itertools import chain
 
 from ..reading.steps import played
 from . import ending
 
 FOLDER = f"{os.path.dirname(os.path.dirname(os.path.realpath(__file__)))}/exploring"
 PARTS = ("values", "rules", "recoverer", "entries", "run", "notes", "terms", "words", "search", "marks", "lanes")
-PARTS += ("draw", "strokes", "overview", "panel", "tips", "page", "controls")
+PARTS += ("draw", "strokes", "overview", "panel", "tips", "packed", "page", "controls")
 MOST = 2**53 - 1
-# what is longer is deflated: a browser takes seconds for a page of 10 MB
+# what is longer is deflated and read in parts: a browser takes seconds for a page of 10 MB
 MOST_PLAIN = 1 << 20
-# kinds of nodes in the order of the audit, and acts; exploring/run.js has both in the same order
+# kinds of nodes in the order of the audit, acts, asks, and their numbers; exploring/ has each in the same order
 ORDER = ("cell", "log", "sequencer", "proxy", "recoverer", "storage")
 ACTS = ("asked", "heard", "submitted", "begun", "crashed", "lost")
+ASKS = ("read", "write", "seed", "push", "lock", "peek", "mark_asked", "pop", "next")
+NUMBERS = ("version", "request", "ballot", "after", "through", "seeded_to", "epoch")
+# how wide the numbers of a column are: for `struct`, for the page, and between which numbers
+WIDTHS = (("B", "u1", 0, 255), ("H", "u2", 0, 2**16 - 1), ("i", "i4", -(2**31), 2**31 - 1), ("d", "f8", -MOST, MOST))
+# how many values one block of a table has
+BLOCK = 512
 
 
 def read(path):
@@ -56,20 +65,16 @@ def text_of(value):
 
 
 class Table:
-    """Values by number, each once."""
+    """Values by number, each once, in the order in which they first come."""
 
     def __init__(self):
         self.numbers = {}
 
     def number(self, value):
-        return self.numbers.setdefault(text_of(value), len(self.numbers))
+        return self.numbers.setdefault(value, len(self.numbers))
 
-    def text(self):
-        return "[" + ",".join(self.numbers) + "]"
-
-    def flat(self):
-        """The members of all values, which are lists, one behind another."""
-        return "[" + ",".join(it[1:-1] for it in self.numbers) + "]"
+    def of(self, value):
+        return self.number(text_of(value))
 
 
 def place_of(node):
@@ -79,40 +84,104 @@ def place_of(node):
     return ORDER.index(kind), *numbers
 
 
-def packed(script):
+def key_of(ask):
+    """A number by which an ask is found again among all: of its word and of the first of its numbers."""
+    ((_, named),) = ask.items()
+    ((word, said),) = named.items()
+    number = next((said[it] for it in NUMBERS if it in said), 0)
+    return (number % 2**26) * 16 + ASKS.index(word)
+
+
+class Packed:
     """A script in less room, and in the order of the audit: columns of its entries, and tables of what these name by
-    numbers. A send is a node, the one that is asked and the ask; a told is who tells, who is told, and the tell."""
-    nodes, asks, sends, tells, tolds, whats, lasts, rows = *(Table() for _ in range(6)), [], []
-    for journal in script["journals"]:
-        node, place = nodes.number(journal["node"]), place_of(journal["node"])
-        lasts.append([node, journal["last"]])
-        for entry in journal["entries"]:
-            ((word, it),) = entry["act"].items()
-            send = told = what = -1
-            if word == "asked":
-                other = nodes.number(it["from"])
-                send = sends.number([other, node, asks.number(it["ask"])])
-                told = tolds.number([node, other, tells.number(it["tell"])])
-            elif word == "heard":
-                told = tolds.number([nodes.number(it["from"]), node, tells.number(it["tell"])])
-                what = whats.number([it["taken"], it["outcome"]])
-            else:
-                what = whats.number(it)
-            rows.append((entry["stamp"], place, node, ACTS.index(word), send, told, what))
-    rows.sort(key=lambda row: row[:2])
-    names = ("stamps", None, "nodes", "words", "sends", "tolds", "whats")
-    columns = {name: [row[at] for row in rows] for at, name in enumerate(names) if name}
-    parts = {"asks": asks.text(), "config": text_of(script["config"]), "entries": text_of(columns)}
-    parts |= {"lasts": text_of(lasts), "nodes": nodes.text(), "sends": sends.flat(), "tells": tells.text()}
-    parts |= {"tolds": tolds.flat(), "whats": whats.text()}
-    return "{" + ",".join(f'"{name}":{text}' for name, text in parts.items()) + "}"
+    numbers. A send is the node that asks, the one that is asked and the ask; a told is who tells, who is told, and the
+    tell. Values are numbered as they come in time, so that the front of a run needs the front of each table alone."""
+
+    def __init__(self, script):
+        self.config, self.nodes, self.keys = script["config"], [], []
+        self.places, self.asks, self.tells, self.whats = {}, Table(), Table(), Table()
+        self.sends, self.tolds = Table(), Table()
+        self.lasts = [[self.node(it["node"]), it["last"]] for it in script["journals"]]
+        rows = [
+            (entry["stamp"], place_of(journal["node"]), self.node(journal["node"]), entry["act"])
+            for journal in script["journals"]
+            for entry in journal["entries"]
+        ]
+        rows.sort(key=lambda row: row[:2])
+        made = [self.row(*row) for row in rows]
+        names = ("stamps", "nodes", "words", "sends", "tolds", "whats")
+        self.entries = {name: [row[at] for row in made] for at, name in enumerate(names)}
+
+    def node(self, node):
+        """The number of a node."""
+        place = place_of(node)
+        if place not in self.places:
+            self.places[place] = len(self.nodes)
+            self.nodes.append(node)
+        return self.places[place]
+
+    def ask(self, ask):
+        number = self.asks.of(ask)
+        if number == len(self.keys):
+            self.keys.append(key_of(ask))
+        return number
+
+    def row(self, stamp, _, node, act):
+        """An entry: its stamp, node and act, and the numbers of what was sent, of what was told, and of the rest."""
+        ((word, it),) = act.items()
+        send = told = what = -1
+        if word == "asked":
+            other = self.node(it["from"])
+            send = self.sends.number((other, node, self.ask(it["ask"])))
+            told = self.tolds.number((node, other, self.tells.of(it["tell"])))
+        elif word == "heard":
+            told = self.tolds.number((self.node(it["from"]), node, self.tells.of(it["tell"])))
+            what = self.whats.of([it["taken"], it["outcome"]])
+        else:
+            what = self.whats.of(it)
+        return stamp, node, ACTS.index(word), send, told, what
+
+    def columns(self):
+        """Lists of numbers by their names; those of sends and tolds stand one member behind another."""
+        flat = {"keys": self.keys} | {name: list(chain(*getattr(self, name).numbers)) for name in ("sends", "tolds")}
+        return flat | {f"entries.{name}": numbers for name, numbers in self.entries.items()}
+
+    def plain(self):
+        """All of it as one text."""
+        parts = {"config": text_of(self.config), "entries": text_of(self.entries), "lasts": text_of(self.lasts)}
+        parts |= {"keys": text_of(self.keys), "nodes": text_of(self.nodes)}
+        parts |= {name: f"[{','.join(getattr(self, name).numbers)}]" for name in ("asks", "tells", "whats")}
+        parts |= {name: text_of(list(chain(*getattr(self, name).numbers))) for name in ("sends", "tolds")}
+        return "{" + ",".join(f'"{name}":{text}' for name, text in sorted(parts.items())) + "}"
+
+    def in_parts(self):
+        """All of it as bytes, of which a page reads what it needs: how long the head is, a head, and a body. The body
+        has the columns, as numbers of one width, and the tables in blocks of texts; the head says where each begins."""
+        head = {"columns": {}, "config": self.config, "lasts": self.lasts, "nodes": self.nodes, "tables": {}}
+        body = bytearray()
+        for name, numbers in self.columns().items():
+            low, high = min(numbers, default=0), max(numbers, default=0)
+            form, wide = next(it[:2] for it in WIDTHS if it[2] <= low and high <= it[3])
+            body += bytes(-len(body) % 8)
+            head["columns"][name] = [len(body), len(numbers), wide]
+            body += struct.pack(f"<{len(numbers)}{form}", *numbers)
+        for name in ("asks", "tells", "whats"):
+            texts, places = list(getattr(self, name).numbers), [len(body)]
+            for at in range(0, len(texts), BLOCK):
+                body += f"[{','.join(texts[at : at + BLOCK])}]".encode()
+                places.append(len(body))
+            head["tables"][name] = {"block": BLOCK, "count": len(texts), "places": places}
+        text = text_of(head).encode()
+        text += b" " * (-(4 + len(text)) % 8)
+        return struct.pack("<I", len(text)) + text + bytes(body)
 
 
 def page_of(script, name="standard input"):
     """The page of a run, with its name in title and head."""
-    data, form = packed(script), "plain"
+    packed, form = Packed(script), "plain"
+    data = packed.plain()
     if len(data) > MOST_PLAIN:
-        data, form = base64.b64encode(zlib.compress(data.encode())).decode(), "deflate"
+        data, form = base64.b64encode(zlib.compress(packed.in_parts())).decode(), "deflate"
     scripts = "\n".join(read(f"{it}.js") for it in PARTS)
     page = read("page.html").replace("@STYLE@", read("page.css")).replace("@SCRIPTS@", scripts.replace("</", "<\\/"))
     before, after = page.split("@JOURNALS@")

@@ -72,9 +72,9 @@ Object.assign(Page.prototype, {
     if (next === undefined) return this.play(false);
     playing.frame = requestAnimationFrame((now) => {
       if (this.playing !== playing) return;
-      const entry = run.entries[picture.step], isMain = entry.rollback || ["begun", "crashed", "lost"].includes(entry.word);
+      const entry = run.entry(picture.step), isMain = entry.rollback || ["begun", "crashed", "lost"].includes(entry.word);
       const pause = (1000 / Number(at("speed").value)) * (isMain ? LINGER : 1), done = (now - playing.since) / pause;
-      picture.moving = done < 1 && Number(at("speed").value) <= 8 && !this.isStill ? { entry: run.entries[next], done } : null;
+      picture.moving = done < 1 && Number(at("speed").value) <= 8 && !this.isStill ? { entry: run.entry(next), done } : null;
       if (done >= 1) [playing.since] = [now, this.by(Math.max(1, Math.min(20, Math.floor(done))))];
       if (picture.moving) this.paint();
       this.playOn();
@@ -167,6 +167,7 @@ Object.assign(Page.prototype, {
     });
     at("find").onsubmit = (event) => (event.preventDefault(), this.find(at("what").value), canvas.focus());
     at("what").onfocus = () => this.showHints();
+    at("legends").ontoggle = () => at("legend").hasChildNodes() || this.legend();
     const steps = { first: -Infinity, before: -1, after: 1, last: Infinity };
     for (const id in steps) does(id, () => (this.play(false), this.by(steps[id])));
     const others = { play: () => this.play(), news: () => this.onlyNews(!picture.onlyNews), follow: () => this.setFollow(!this.follow), closer: () => this.zoom(1.4), wider: () => this.zoom(1 / 1.4) };
@@ -177,10 +178,18 @@ Object.assign(Page.prototype, {
     does("back", () => (this.story(), this.paint()));
     does("theme", () => ((this.isThemeSet = true), this.theme(document.documentElement.dataset.theme === "dark" ? "light" : "dark"), this.tellAddress()));
     at("follow").setAttribute("aria-pressed", true);
-    new ResizeObserver(() => (picture.fit(), this.overview.fit(), this.reveal(Math.floor(picture.column(picture.step))), this.paint())).observe(canvas);
+    new ResizeObserver(() => this.fit()).observe(canvas);
     addEventListener("hashchange", () => this.takeAddress());
     this.listenCanvas(canvas);
     this.listenOverview(at("overview"));
+  },
+
+  /** Draws anew once the page gives the canvases another size. */
+  fit() {
+    const isOther = [this.picture, this.overview].filter((it) => it.fit()).length > 0;
+    if (!isOther) return;
+    this.reveal(Math.floor(this.picture.column(this.picture.step)));
+    this.paint();
   },
 
   /** What can be sought, below the field: each starts that search. */

@@ -12,9 +12,9 @@ function inksOf() {
 }
 
 class Picture {
-  constructor(canvas, run) {
+  constructor(canvas, run, onlyNews) {
     Object.assign(this, { canvas, run, pen: canvas.getContext("2d"), x: 0, scale: 40, top: 0, step: 0, hits: new Set(), spots: [] });
-    Object.assign(this, { onlyNews: false, folds: new Map(), open: new Set(), isSpread: false });
+    Object.assign(this, { onlyNews, folds: new Map(), open: new Set(), isSpread: false });
     this.colours();
     this.fit();
     this.renew();
@@ -30,36 +30,37 @@ class Picture {
     for (const it of this.run.batches) it.fate = fateOf(this.run, it);
     this.show(this.onlyNews);
   }
-  /** Which entries have a column: of those that were read all, or those that bring something new. */
+  /** Which entries have a column: of those that were read all, or those that bring something new; and all others. */
   show(onlyNews) {
-    const { entries, read, shown } = this.run;
-    [this.onlyNews, this.shown] = [onlyNews, shown];
-    this.columnOf = new Float64Array(shown);
+    const { entries, read } = this.run, count = entries.length;
+    [this.onlyNews, this.count] = [onlyNews, count];
+    this.columnOf = new Float64Array(count);
     this.entryAt = [];
-    for (let at = 0; at < shown; at++) {
-      const isShown = !onlyNews || entries[at].news || at >= read;
+    for (let at = 0; at < count; at++) {
+      const isShown = !onlyNews || at >= read || entries[at].news;
       this.columnOf[at] = this.entryAt.length - (isShown ? 0 : 0.5);
       if (isShown) this.entryAt.push(at);
     }
     this.layOut();
   }
   column(at) {
-    return at < 0 ? -1 : at < this.shown ? this.columnOf[at] : this.entryAt.length;
+    return at < 0 ? -1 : at < this.count ? this.columnOf[at] : this.entryAt.length;
   }
   isShown(at) {
     return at >= 0 && Number.isInteger(this.columnOf[at]);
   }
-  /** Takes the size that the page gives the canvas: to ask for it has the page laid out. */
+  /** Takes the size that the page gives the canvas, and says whether it is another one: to ask for it has the page laid out. */
   fit() {
-    [this.wide, this.high] = [this.canvas.clientWidth, this.canvas.clientHeight];
-    this.gutter = this.wide < 600 ? 114 : 128;
+    const { clientWidth: wide, clientHeight: high } = this.canvas, isOther = wide !== this.wide || high !== this.high;
+    [this.wide, this.high, this.gutter] = [wide, high, wide < 600 ? 114 : 128];
+    return isOther;
   }
   /** Which groups are open in this view, and where each lane stands. */
   layOut() {
     const [from, upto] = this.view(), { step, chosen, folds, open: was, entryAt } = this;
     const room = Math.max(6, Math.floor((this.high - this.head() - 2 * FOLDED) / LEAST_LANE));
     const middle = Math.max(from, Math.min(upto, Math.floor(this.column(step)))), near = [-NEAR, NEAR].map((it) => entryAt[Math.max(from, Math.min(upto, middle + it))] ?? 0);
-    const view = { from: entryAt[from] ?? 0, upto: entryAt[upto] ?? 0, near, chosen, folds, room, was, read: this.run.read }, there = new Map();
+    const view = { from: entryAt[from] ?? 0, upto: entryAt[upto] ?? 0, near, chosen, folds, room, was }, there = new Map();
     const shown = (group) => there.get(group) ?? (there.set(group, present(group, view)), there.get(group));
     this.open = openGroups(this.groups, view, shown);
     for (const it of this.nodes) it.row = null;
@@ -252,7 +253,7 @@ class Picture {
       const x = this.xOf(at), entry = this.entryAt[at];
       if (entry === undefined || x < this.gutter + 4) continue;
       pen.fillText(`${entry}`, x, 9);
-      pen.fillText(`${this.run.entries[entry].stamp}`, x, 22);
+      pen.fillText(`${this.run.columns.stamps[entry]}`, x, 22);
     }
     pen.textAlign = "left";
   }

@@ -17,7 +17,8 @@ class RunNode {
     this.place = [ORDER.indexOf(this.kind), epoch, number];
     this.epoch = this.what.epoch ?? this.what.ballot ?? null;
     this.name = [this.kind, ...["epoch", "ballot", "index", "number", "tag"].filter((it) => it in this.what).map((it) => this.what[it])].join(" ");
-    Object.assign(this, { entries: [], machine: null, copies: [], born: Infinity, gone: Infinity, wanted: [], last: undefined });
+    // where its entries are: all of its journal, and those that were read
+    Object.assign(this, { journal: [], entries: [], machine: null, copies: [], born: Infinity, gone: Infinity, wanted: [], last: undefined });
   }
   begin(machine, at) {
     this.machine = machine;
@@ -98,6 +99,7 @@ function isElsewhere(kind, before, after) {
 }
 
 const ACTS = ["asked", "heard", "submitted", "begun", "crashed", "lost"];
+const [BEGUN, CRASHED, LOST] = [3, 4, 5];
 
 /** One entry. What it says is made where it is looked at. */
 class Entry {
@@ -119,14 +121,14 @@ class Entry {
     this.why = this.applied = this.rollback = null;
   }
   get ask() {
-    return this.run.asks[this.run.sends[3 * this.send + 2]];
+    return this.run.asks.at(this.run.sends[3 * this.send + 2]);
   }
   get tell() {
-    return this.run.tells[this.run.tolds[3 * this.told + 2]];
+    return this.run.tells.at(this.run.tolds[3 * this.told + 2]);
   }
   get what() {
     if (this.word === "asked") return { ask: this.ask, from: this.run.values[this.from.number], tell: this.tell };
-    const what = this.run.whats[this.whatAt];
+    const what = this.run.whats.at(this.whatAt);
     return this.word === "heard" ? { from: this.run.values[this.from.number], outcome: what[1], taken: what[0], tell: this.tell } : what;
   }
 }

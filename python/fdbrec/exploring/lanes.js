@@ -18,16 +18,11 @@ const KINDS = {
 function groupsOf(run) {
   const groups = new Map(), place = (it) => LANE_ORDER.indexOf(it.kind) * 300 + it.place[2];
   for (const node of run.nodes.values()) {
-    if (node.last === undefined && node.entries.length === 0) continue;
+    if (node.last === undefined && node.journal.length === 0) continue;
     const key = { storage: "storage servers", cell: "coordinators" }[node.kind] ?? `epoch ${node.epoch}`;
-    if (!groups.has(key)) groups.set(key, { key, epoch: node.epoch, nodes: [], entries: [] });
+    if (!groups.has(key)) groups.set(key, { key, epoch: node.epoch, nodes: [] });
     groups.get(key).nodes.push(node);
     node.group = groups.get(key);
-  }
-  for (const { node } of run.entries) node.unread = [];
-  for (const { node, at } of run.entries) {
-    node.group.entries.push(at);
-    if (at >= run.read) node.unread.push(at);
   }
   const rank = (it) => ({ "storage servers": -2, coordinators: -1 }[it.key] ?? it.epoch);
   for (const it of groups.values()) it.nodes.sort((a, b) => place(a) - place(b));
@@ -39,15 +34,20 @@ function countWithin(numbers, from, upto) {
   return countThrough(numbers, upto) - countThrough(numbers, from - 1);
 }
 
+/** How many entries of a group are from one to another. */
+function countOf(group, from, upto) {
+  return group.nodes.reduce((sum, it) => sum + countWithin(it.journal, from, upto), 0);
+}
+
 /** Which groups have lanes of their own: storage servers, the chosen node's, what the user opened, and as many of those
  * that do something in view as there is room for, first those that do most near the step. */
 function openGroups(groups, { from, upto, near, chosen, folds, room, was }, shown) {
   const isSet = (it) => folds.get(it.key) ?? (it.key === "storage servers" || (chosen && chosen.group === it) || null);
   const open = new Set(groups.filter((it) => isSet(it) === true));
   let left = room - [...open].reduce((sum, it) => sum + shown(it).length, 0);
-  const isBusy = (it) => isSet(it) === null && countWithin(it.entries, from, upto) > 0;
+  const isBusy = (it) => isSet(it) === null && countOf(it, from, upto) > 0;
   // (one that is open stays so until another one does half as much again)
-  const does = (it) => countWithin(it.entries, ...near) * (was.has(it) ? 1.5 : 1);
+  const does = (it) => countOf(it, ...near) * (was.has(it) ? 1.5 : 1);
   const busy = groups.filter(isBusy).map((it) => [does(it), it]).sort((a, b) => b[0] - a[0]);
   for (const [, it] of busy) {
     const high = shown(it).length;
@@ -60,12 +60,12 @@ function openGroups(groups, { from, upto, near, chosen, folds, room, was }, show
 
 /** Whether a node is there in a part of the run, or has an entry in it. */
 function isThere(node, from, upto) {
-  return countWithin(node.entries, from, upto) > 0 || (node.born <= upto && node.gone >= from);
+  return countWithin(node.journal, from, upto) > 0 || (node.born <= upto && node.gone >= from);
 }
 
 /** The nodes of a group that are there in view, or chosen. */
-function present(group, { from, upto, chosen, read }) {
-  return group.nodes.filter((it) => it === chosen || isThere(it, from, upto) || (upto >= read && it.unread.some((at) => at >= from && at <= upto)));
+function present(group, { from, upto, chosen }) {
+  return group.nodes.filter((it) => it === chosen || isThere(it, from, upto));
 }
 
 /** Rows from top to bottom: one for each node of an open group that is there, one for a folded group or several in a row. */
@@ -109,9 +109,14 @@ function rowName({ groups }) {
 
 // ---- bands
 
+/** Where what is known of a run ends: at its last entry, or at the first that is not read. */
+function endOf(run) {
+  return Math.max(0, Math.min(run.read, run.entries.length - 1));
+}
+
 /** Epochs from where each was opened to where the next one was. */
 function epochsOf(run) {
-  const last = Math.max(0, run.shown - 1);
+  const last = endOf(run);
   const found = [{ epoch: FIRST, from: 0, to: last, m: run.config.logs, k: run.config.degree }];
   for (const it of run.recoveries.filter((each) => each.chosen !== null).sort((a, b) => a.chosen - b.chosen)) {
     found[found.length - 1].to = it.chosen;
@@ -123,7 +128,7 @@ function epochsOf(run) {
 
 /** Recoveries from their beginning to their first mark, in rows that keep them apart. */
 function bandsOf(run) {
-  const ends = [], last = run.shown - 1;
+  const ends = [], last = endOf(run);
   return run.recoveries.map((it) => {
     const to = it.mark ?? it.lost ?? last, free = ends.findIndex((end) => end < it.begun);
     const row = Math.min(free < 0 ? ends.length : free, 3);

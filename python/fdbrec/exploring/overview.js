@@ -9,9 +9,12 @@ class Overview {
     Object.assign(this, { canvas, picture, pen: canvas.getContext("2d"), spots: [], still: null });
     this.fit();
   }
+  /** Takes the size of the canvas, and says whether it is another one. */
   fit() {
-    [this.wide, this.high] = [this.canvas.clientWidth, this.canvas.clientHeight];
-    this.renew();
+    const { clientWidth: wide, clientHeight: high } = this.canvas, isOther = wide !== this.wide || high !== this.high;
+    [this.wide, this.high] = [wide, high];
+    if (isOther) this.renew();
+    return isOther;
   }
   /** Has the still part, which does not change from step to step, drawn anew. */
   renew() {
@@ -86,15 +89,15 @@ class Overview {
     this.drawUnread();
     this.drawEvents();
   }
-  /** What stands behind a fault, and is not read. */
+  /** What is not read: not yet, or since it stands behind a fault. */
   drawUnread() {
     const { pen, picture } = this, { run, ink } = picture, x = this.xOf(picture.column(run.read) - 0.5);
-    if (!run.fault || run.read >= run.shown) return;
+    if (run.read >= picture.count) return;
     pen.fillStyle = ink.panel;
     pen.fillRect(x, GLANCE.epochs, this.right - x, this.high - GLANCE.epochs - GLANCE.foot);
     pen.fillStyle = ink.soft;
     const from = this.xAt(run.read) + 12;
-    this.fitted(["behind the fault: not read", "not read"], from, GLANCE.events + 9.5, this.right - from - 2);
+    this.fitted(run.fault ? ["behind the fault: not read", "not read"] : ["not read yet"], from, GLANCE.events + 9.5, this.right - from - 2);
   }
   /** What the area and the lines of the chart are. */
   drawKey() {
@@ -115,7 +118,7 @@ class Overview {
   drawEpochs() {
     const { pen, picture } = this, { ink } = picture;
     for (const it of picture.epochs) {
-      const a = this.xOf(picture.column(it.from) - 0.5), b = this.xOf(picture.column(it.to) + (it.to === picture.run.shown - 1 ? 0.5 : -0.5));
+      const a = this.xOf(picture.column(it.from) - 0.5), b = this.xOf(picture.column(it.to) + (it.to === picture.count - 1 ? 0.5 : -0.5));
       pen.fillStyle = it.at % 2 ? ink.epoch1 : ink.epoch0;
       pen.fillRect(a, GLANCE.epochs, b - a, 16);
       pen.fillRect(a, GLANCE.chart, b - a, 1);
@@ -206,9 +209,9 @@ class Overview {
       if (places.has(key)) places.get(key).count += 1;
       else places.set(key, { kind, at, x, tip, count: 1 });
     };
-    for (const it of run.entries) if (it.at < run.read && (it.word === "crashed" || it.word === "lost")) put(it.word, it.at, () => entryText(run, it));
+    for (const at of run.ends) if (at < run.read || !run.fault) put(run.entry(at).word, at, () => entryText(run, run.entry(at)));
     for (const it of run.rollbacks) put("rollback", it.at, () => rollbackTip(it));
-    if (run.fault) put("fault", Math.max(0, run.fault.at), () => `The fault: ${run.fault.line}`);
+    if (run.fault) put("fault", Math.max(0, run.fault.at), () => `The fault: ${run.fault.says}`);
     for (const it of places.values()) {
       pen.strokeStyle = pen.fillStyle = it.kind === "crashed" ? ink.soft : ink.bad;
       this.drawEvent(it, y);

@@ -3,8 +3,9 @@
 
 const at = (id) => document.getElementById(id);
 
-// for how many milliseconds a run is read before the page first shows it, and then each time between keys and clicks
-const FIRST_READ = 200, NEXT_READ = 80;
+// for how many milliseconds a run is read before the page first shows it, and then each time between keys and clicks; and
+// how often it shows what it read meanwhile
+const FIRST_READ = 30, NEXT_READ = 30, SHOW_READ = 300;
 // from how many entries on the page shows those alone that bring something new
 const LONG = 300;
 
@@ -13,14 +14,6 @@ const VERDICTS = {
   bad: "The first fault: the entry that breaks the rules, or the node that ends elsewhere than they say.",
   wait: "The page reads the journals, and says then whether they keep the rules.",
 };
-
-/** What bench/explore packed: as it stands, or, of a long run, deflated and in base64. */
-async function unpacked({ dataset, textContent: text }) {
-  if (dataset.form !== "deflate") return JSON.parse(text);
-  const letters = atob(text), bytes = new Uint8Array(letters.length);
-  for (let at = 0; at < letters.length; at++) bytes[at] = letters.charCodeAt(at);
-  return JSON.parse(await new Response(new Blob([bytes]).stream().pipeThrough(new DecompressionStream("deflate"))).text());
-}
 
 class Page {
   constructor(data) {
@@ -31,11 +24,10 @@ class Page {
     this.words = new URLSearchParams(location.hash.slice(1));
     this.isThemeSet = this.words.has("theme");
     document.documentElement.dataset.theme = this.words.get("theme") || (matchMedia("(prefers-color-scheme: dark)").matches ? "dark" : "light");
-    this.picture = new Picture(at("picture"), this.run);
+    this.picture = new Picture(at("picture"), this.run, this.isNews());
     this.overview = new Overview(at("overview"), this.picture);
     Object.assign(this, { follow: true, items: [], hit: -1, asked: false, isMoved: false, sought: "", playing: null, written: null });
     this.theme(document.documentElement.dataset.theme);
-    this.legend();
     this.showFault();
     this.tips = new Tips(at("tip"));
     this.listen();
@@ -53,39 +45,68 @@ class Page {
 
   /** Reads a long run to its end, a part at a time, so that the page answers meanwhile; then shows all of it. */
   readOn(begun) {
-    if (this.run.isDone) return (this.whole = performance.now() - begun);
-    setTimeout(() => {
-      this.readFor(NEXT_READ);
+    if (this.run.isDone) return this.legend(), (this.whole = performance.now() - begun);
+    const read = () => {
+      // (a browser seldom calls a page that nobody sees)
+      this.readFor(document.hidden ? 10 * NEXT_READ : NEXT_READ);
       this.verdict();
-      if (this.run.isDone) this.renew();
+      if (this.run.isDone || performance.now() - this.renewed > SHOW_READ) this.renew();
       this.readOn(begun);
-    });
+    };
+    // (it is painted before it reads on, unless nobody sees it)
+    const isFirst = this.renewed === undefined && !document.hidden;
+    this.renewed ??= performance.now();
+    if (isFirst) requestAnimationFrame(() => setTimeout(read));
+    else setTimeout(read);
   }
 
-  /** Shows a run that was read to its end: where the user did nothing meanwhile, as it opens. */
+  /** Shows what was read meanwhile. At the end, if the user did nothing or there is a fault, it opens anew. */
   renew() {
-    this.picture.renew();
+    const { picture, run } = this, before = picture.column(picture.step) - picture.x;
+    this.renewed = performance.now();
+    picture.renew();
     this.overview.renew();
-    this.showFault();
-    if (!this.isMoved || this.run.fault) return this.open();
-    this.story();
-    this.go(this.picture.step);
+    if (run.isDone) this.showFault();
+    if (run.isDone && (!this.isMoved || run.fault)) return this.open();
+    if (run.isDone) this.story();
+    // (where only news are shown, what is read takes fewer columns)
+    picture.x = picture.column(picture.step) - before;
+    this.go(picture.step);
   }
 
-  /** Where the page opens: where the words behind # say, else at the fault, else at the first entry. */
+  /** Whether the page opens with those entries alone that bring something new. */
+  isNews() {
+    return this.words.has("news") ? this.words.get("news") === "1" : this.run.entries.length > LONG;
+  }
+
+  /** Where the page opens if its address does not say: at the fault, else at the first recovery, else at the end. */
+  mainStep() {
+    const { begins, entries, fault } = this.run;
+    return fault ? fault.at : begins[0] ?? entries.length - 1;
+  }
+
+  /** Shows what the words behind # say. */
   open() {
     const { words, run, picture } = this, { fault } = run;
-    const isLong = run.entries.length > LONG, news = words.has("news") ? words.get("news") === "1" : isLong;
-    if (news !== picture.onlyNews) this.onlyNews(news);
-    const step = words.has("step") ? Number(words.get("step")) : fault ? Math.max(0, fault.at) : 0;
+    if (this.isNews() !== picture.onlyNews) this.onlyNews(this.isNews());
+    at("news").setAttribute("aria-pressed", picture.onlyNews);
+    const step = words.has("step") ? Number(words.get("step")) : this.mainStep();
     this.story();
     picture.scale = Number(words.get("scale")) || Math.min(40, Math.max(14, (picture.wide - picture.gutter) / Math.max(1, picture.entryAt.length)));
     if (fault && fault.node) this.choose(fault.node);
     const node = [...run.nodes.values()].find((it) => it.name === words.get("node"));
     if (node) this.choose(node);
     this.go(step);
-    if (words.has("find")) this.find(words.get("find"), words.has("step"));
+    if (words.has("find")) this.openFound(words.get("find"), words.has("step"));
     this.isMoved = false;
+  }
+
+  /** What the address seeks; the first that is found is shown from the front, as if nothing had been shown before. */
+  openFound(text, isStaying) {
+    const { picture } = this;
+    if (!isStaying) picture.x = -1;
+    this.find(text, isStaying);
+    this.reveal(Math.floor(picture.column(picture.step)));
   }
 
   theme(name) {
@@ -93,7 +114,7 @@ class Page {
     at("theme").textContent = name === "dark" ? "Light" : "Dark";
     this.picture.colours();
     this.overview.renew();
-    if (this.opened) this.legend();
+    if (at("legend").hasChildNodes()) this.legend();
     this.paint();
   }
 
@@ -109,10 +130,10 @@ class Page {
 
   /** Goes to an entry; where only news are shown, to the last one that is shown up to there. */
   go(step) {
-    const { picture, run } = this, most = picture.shown - 1;
+    const { picture, run } = this, most = picture.count - 1;
     step = Math.max(0, Math.min(most, Math.floor(step) || 0));
     picture.step = step;
-    const entry = run.entries[step], column = Math.floor(picture.column(step));
+    const entry = run.entry(step), column = Math.floor(picture.column(step));
     if (entry && this.follow) picture.chosen = entry.node;
     this.reveal(column);
     at("step").textContent = entry ? `Entry ${step} of ${run.entries.length}, stamp ${entry.stamp}, ${entry.node.name}` : "No entry";
@@ -138,7 +159,8 @@ class Page {
   }
 
   unread(step) {
-    const { fault } = this.run, entry = this.run.entries[step];
+    const { fault, isDone } = this.run, entry = this.run.entry(step);
+    if (!isDone) return `Not read yet: ${entryText(this.run, entry)}`;
     return step === fault.at ? `${entryText(this.run, entry)} This is the fault.` : `It stands behind the fault, and is not read: ${entryText(this.run, entry)}`;
   }
 
@@ -146,7 +168,8 @@ class Page {
     const { picture, run } = this, node = picture.chosen || picture.nodes[0];
     if (!node) return;
     const step = Math.min(picture.step, run.read - 1);
-    at("whose").textContent = `State of ${node.name} ${run.fault && picture.step >= run.read ? "before the fault" : "after it"}`;
+    const when = picture.step < run.read ? "after it" : run.fault ? "before the fault" : "as far as the run is read";
+    at("whose").textContent = `State of ${node.name} ${when}`;
     showState(run, node, run.entries.length ? step : 0, at("state"));
   }
 
@@ -245,8 +268,17 @@ class Page {
     const { fault } = this.run, box = at("fault");
     box.hidden = !fault;
     if (!fault) return;
-    const line = element("p", [element("strong", "A fault: "), fault.line], { class: "line" });
-    box.replaceChildren(line, ...fault.words.map((it) => element("p", it, /^(At|\.\.) /.test(it) ? {} : { class: "whole" })));
+    const where = fault.line.startsWith("state") ? "At the end" : `Entry ${fault.at}`;
+    const line = element("span", ` ${where}; fdbrec audit says: ${fault.line}.`, { class: "line" });
+    box.replaceChildren(element("p", [element("strong", capital(fault.says)), line]), ...(fault.sides ? this.sides(fault.sides) : []));
+  }
+
+  /** The two sides of a fault: each in words, where they differ, and both as they stand. */
+  sides({ names, places, values, words }) {
+    const rows = names.flatMap((it, at) => [element("dt", capital(it)), element("dd", words[at])]);
+    const whole = names.flatMap((it, at) => [element("dt", capital(it)), element("dd", element("code", JSON.stringify(values[at])))]);
+    const folded = element("details", [element("summary", "Both in full"), element("dl", whole)]);
+    return [element("dl", rows), ...places.map((it) => element("p", it)), folded];
   }
 
   // ---- lists
@@ -254,7 +286,8 @@ class Page {
   story() {
     this.sought = "";
     const items = storyOf(this.run);
-    this.listItems(`The story${this.run.isDone ? "" : " so far"}`, items.length ? items : [{ head: "No recovery, no rollback, no crash." }]);
+    const none = this.run.isDone ? "No recovery, no rollback, no crash." : "It comes once the run is read.";
+    this.listItems(`The story${this.run.isDone ? "" : " so far"}`, items.length ? items : [{ head: none }]);
     this.sums();
     this.tellAddress();
   }

@@ -3,8 +3,8 @@
 
 class Run {
   /** What bench/explore packed: columns of all entries in their order, and tables of what they name by numbers. */
-  constructor({ asks, config, entries, lasts, nodes, sends, tells, tolds, whats }, isWhole = true) {
-    Object.assign(this, { asks, config, sends, tells, tolds, values: nodes, whats, nodes: new Map() });
+  constructor({ asks, config, entries: columns, keys, lasts, nodes, sends, tells, tolds, whats }, isWhole = true) {
+    Object.assign(this, { asks, columns, config, keys, sends, tells, tolds, values: nodes, whats, nodes: new Map() });
     Object.assign(this, { batches: [], byVersion: new Map(), recoveries: [], rollbacks: [], plans: new Map(), nextOf: new Map(), fault: null });
     // asks that were sent: by their numbers among the sends, those that no journal has by their text, and in order
     Object.assign(this, { sent: new Array(sends.length / 3), unheard: new Map(), issued: [] });
@@ -17,9 +17,13 @@ class Run {
     this.named.forEach((node, number) => (node.number = number));
     for (const [number, last] of lasts) this.named[number].last = last;
     this.index();
-    this.entries = entries.stamps.map((_, at) => new Entry(this, at, entries));
+    // each entry is made where it is read or shown
+    this.entries = new Array(columns.stamps.length);
+    this.glance();
+    // the arrows that begin or end at an entry: the first one, and behind each the next
+    [this.arrows, this.arrowFirst, this.arrowNext] = [[], new Int32Array(this.entries.length).fill(-1), []];
     // how many entries were read, and whether that is all
-    [this.read, this.isDone, this.lost] = [0, false, []];
+    [this.read, this.isDone] = [0, false];
     if (isWhole || this.entries.length === 0) this.take();
   }
 
@@ -30,15 +34,14 @@ class Run {
     return found;
   }
 
-  /** Chains of the asks that have one word and number, and of the sends of one ask. */
+  /** Chains of the asks that have one key, and of the sends of one ask. */
   index() {
-    const { asks, sends } = this;
-    [this.askFirst, this.askNext] = [new Map(), new Int32Array(asks.length).fill(-1)];
-    [this.sendFirst, this.sendNext] = [new Int32Array(asks.length).fill(-1), new Int32Array(sends.length / 3).fill(-1)];
-    for (let number = asks.length - 1; number >= 0; number--) {
-      const found = this.alike(asks[number]), key = askNumber(asks[number]);
-      this.askNext[number] = found.get(key) ?? -1;
-      found.set(key, number);
+    const { keys, sends } = this;
+    [this.askFirst, this.askNext] = [new Map(), new Int32Array(keys.length).fill(-1)];
+    [this.sendFirst, this.sendNext] = [new Int32Array(keys.length).fill(-1), new Int32Array(sends.length / 3).fill(-1)];
+    for (let number = keys.length - 1; number >= 0; number--) {
+      this.askNext[number] = this.askFirst.get(keys[number]) ?? -1;
+      this.askFirst.set(keys[number], number);
     }
     for (let number = sends.length / 3 - 1; number >= 0; number--) {
       const ask = sends[3 * number + 2];
@@ -47,19 +50,27 @@ class Run {
     }
   }
 
-  /** The first ask of each number among those of a word. */
-  alike(ask) {
-    const word = variant(variant(ask)[1])[0], found = this.askFirst.get(word);
-    if (found) return found;
-    const none = new Map();
-    this.askFirst.set(word, none);
-    return none;
+  /** What is known before anything is read: where each node has entries, and where nodes end and recoveries begin. */
+  glance() {
+    const { named, columns } = this, { nodes, words } = columns;
+    [this.ends, this.begins] = [[], []];
+    for (let at = 0; at < nodes.length; at++) {
+      named[nodes[at]].journal.push(at);
+      if (words[at] === CRASHED || words[at] === LOST) this.ends.push(at);
+      else if (words[at] === BEGUN) this.begins.push(at);
+    }
+  }
+
+  /** An entry, read or not. */
+  entry(at) {
+    if (at >= 0 && at < this.entries.length) this.entries[at] ??= new Entry(this, at, this.columns);
+    return this.entries[at];
   }
 
   /** The number of what a node sends to another one, or none where no journal has it. */
   sendOf(ask, from, to) {
-    let number = this.alike(ask).get(askNumber(ask)) ?? -1;
-    while (number >= 0 && !isSame(this.asks[number], ask)) number = this.askNext[number];
+    let number = this.askFirst.get(askKey(ask)) ?? -1;
+    while (number >= 0 && !isSame(this.asks.at(number), ask)) number = this.askNext[number];
     let send = number < 0 ? -1 : this.sendFirst[number];
     while (send >= 0 && (this.sends[3 * send] !== from.number || this.sends[3 * send + 1] !== to.number)) send = this.sendNext[send];
     return send;
@@ -101,7 +112,7 @@ class Run {
   take(most = Infinity) {
     const upto = Math.min(this.entries.length, this.read + most);
     while (!this.fault && this.read < upto) {
-      const entry = this.entries[this.read];
+      const entry = this.entry(this.read);
       this.fault = this.repeated(entry) || this.takeOne(entry);
       if (!this.fault) this.read += 1;
     }
@@ -113,61 +124,55 @@ class Run {
     return this.nextOf.get(epoch);
   }
 
-  /** How many entries can be shown: those that were read, and once that is done those behind a fault too. */
-  get shown() {
-    return this.isDone ? this.entries.length : this.read;
-  }
-
   end() {
     this.isDone = true;
     if (!this.fault) this.fault = this.unlike();
     // what never came: asks that were sent, and tells that nobody heard
-    this.lost = this.issued.filter((it) => it.count === 0).map(({ from, to, issued }) => ({ kind: "ask", from, to, x0: issued, x1: issued, isLost: true }));
-    for (const { at, from, isHeard, node, word } of this.entries.slice(0, this.read))
-      if (word === "asked" && !isHeard) this.lost.push({ kind: "tell", from: node, to: from, x0: at, x1: at, isLost: true });
+    for (const { count, from, to, issued } of this.issued) if (count === 0) this.addArrow({ kind: "ask", from, to, isLost: true, x0: issued, x1: issued });
+    for (let at = 0; at < this.read; at++) {
+      const { from, isHeard, node, word } = this.entries[at];
+      if (word === "asked" && !isHeard) this.addArrow({ kind: "tell", from: node, to: from, isLost: true, x0: at, x1: at });
+    }
   }
 
-  /** The arrows that begin or end at an entry. */
+  /** The arrows that begin or end at an entry: entries that were read, and what never came. */
   arrowsAt(at) {
-    if (!this.arrowEnds || this.arrowEnds.shown !== this.shown) this.arrowEnds = this.ends();
-    const { first, next, arrows } = this.arrowEnds, found = [];
-    for (let end = first[at]; end >= 0; end = next[end]) found.push(arrows[end >> 1]);
+    const found = [];
+    for (let end = this.arrowFirst[at]; end >= 0; end = this.arrowNext[end]) found.push(this.arrows[end >> 1]);
     return found;
   }
 
-  /** All arrows: of the entries that were read, and of what never came, in a chain for each entry. */
-  ends() {
-    const isArrow = (it) => it.word === "asked" || it.word === "heard", arrows = this.entries.slice(0, this.read).filter(isArrow);
-    for (const it of this.lost) arrows.push(it);
-    const first = new Int32Array(this.entries.length).fill(-1), next = new Int32Array(2 * arrows.length).fill(-1);
-    const add = (at, end) => ([next[end], first[at]] = [first[at], end]);
-    arrows.forEach((it, number) => {
-      const x1 = it.x1 ?? it.at;
-      if (it.x0 >= 0) add(it.x0, 2 * number);
-      if (x1 >= 0 && x1 !== it.x0) add(x1, 2 * number + 1);
-    });
-    return { first, next, arrows, shown: this.shown };
+  /** Adds an arrow to the chains of the entries at which it begins and ends. */
+  addArrow(it, x1 = it.x1) {
+    const { arrowFirst: first, arrowNext: next } = this, end = next.length;
+    this.arrows.push(it);
+    next.push(it.x0 >= 0 ? first[it.x0] : -1, -1);
+    if (it.x0 >= 0) first[it.x0] = end;
+    if (x1 === it.x0 || x1 < 0) return;
+    next[end + 1] = first[x1];
+    first[x1] = end + 1;
   }
 
   repeated(entry) {
     const before = this.entries[entry.at - 1];
     const isSo = before && before.stamp === entry.stamp && before.node === entry.node;
-    return isSo && { at: entry.at, line: `not a run at ${entry.at}`, words: [`${entry.node.name} has another entry of stamp ${entry.stamp} before: the stamps of a node rise.`] };
+    return isSo && { at: entry.at, line: `not a run at ${entry.at}`, says: `${entry.node.name} has two entries of the stamp ${entry.stamp}, and the stamps of a node rise.` };
   }
 
   takeOne(entry) {
     const { node, at } = entry;
     const notARun = whyNot(this, entry);
-    if (notARun) return { at, line: `not a run at ${at}`, words: notARun };
+    if (notARun) return { at, line: `not a run at ${at}`, ...notARun };
     if (entry.word === "begun") this.begun(entry);
     else if (entry.word === "crashed" || entry.word === "lost") this.left(entry);
     else {
       const { what } = entry, before = standing(node.kind, node.machine, this.before), got = done(node.machine, entry.word, what);
-      if (got && got.cannotBreak) return { at, line: `not a run at ${at}`, words: [`What ${node.name} hears cannot break off at version ${what.taken}.`] };
+      if (got && got.cannotBreak) return { at, line: `not a run at ${at}`, says: `${node.name} breaks off in the middle of a reply at version ${what.taken}, and no record ends there.` };
       const differs = this.differs(entry, what, got);
-      if (differs) return { at, line: `tell differs at ${at}`, words: differs };
+      if (differs) return { at, line: `tell differs at ${at}`, ...differs };
       entry.news = entry.word === "submitted" || isElsewhere(node.kind, before, standing(node.kind, node.machine, this.after));
       this[entry.word](entry, what, got);
+      if (entry.from !== null) this.addArrow(entry, at);
     }
     node.entries.push(at);
     node.keep();
@@ -175,10 +180,12 @@ class Run {
   }
 
   /** How what is told, or said of a batch, is another thing than it must be. */
-  differs({ node, word }, what, got) {
-    if (word === "asked" && !isSame(got, what.tell)) return unlikeWords(`${node.name} is to tell`, got, "the journal has it tell", what.tell);
+  differs({ node, from, word }, what, got) {
+    if (word === "asked" && !isSame(got, what.tell))
+      return { says: `${node.name} gives a wrong reply when ${from.name} asks it ${askText(what.ask)}.`, sides: sidesOf(BY_RULES, [got, what.tell], tellText) };
     const outcome = node.kind === "proxy" ? got : null;
-    if (word === "heard" && !isSame(outcome, what.outcome)) return unlikeWords(`${node.name} is to say of its batch`, outcome, "the journal has it say", what.outcome);
+    if (word === "heard" && !isSame(outcome, what.outcome))
+      return { says: `${node.name} says something wrong of its batch when it hears from ${from.name}: ${tellText(what.tell)}.`, sides: sidesOf(BY_RULES, [outcome, what.outcome], outcomeWords) };
     return null;
   }
 
@@ -239,10 +246,11 @@ class Run {
     const given = [...this.nodes.values()].filter((it) => it.last !== undefined).sort((a, b) => isBefore(a.place, b.place));
     for (const node of given) {
       const at = node.entries[node.entries.length - 1] ?? this.entries.length - 1, line = `state differs at ${node.name}`;
-      if (node.machine === null) return { at, node, line, words: [`There is no ${node.name}.`] };
+      if (node.machine === null) return { at, node, line, says: `There is a journal of ${node.name}, and no such node ever was.` };
       const wanted = { [node.kind]: node.machine.last() };
-      if (node.last === null) return { at, node, line, words: [`The journal of ${node.name} does not say where it stands at last.`] };
-      if (!isSame(wanted, node.last)) return { at, node, line, words: unlikeWords(`${node.name} is to stand at last at`, wanted, "the journal says", node.last) };
+      if (node.last === null) return { at, node, line, says: `The journal of ${node.name} does not say in which state it ends.` };
+      if (!isSame(wanted, node.last))
+        return { at, node, line, says: `${node.name} ends in a wrong state: its entries lead to another one.`, sides: sidesOf(BY_RULES, [wanted, node.last], stateWords) };
     }
     return null;
   }
@@ -294,10 +302,13 @@ function lastAt(items, test) {
   return low;
 }
 
-/** A number by which an ask is found again among those of its word. */
-function askNumber(ask) {
-  const said = variant(variant(ask)[1])[1] ?? {};
-  return said.version ?? said.request ?? said.ballot ?? said.after ?? said.through ?? said.seeded_to ?? said.epoch ?? 0;
+const ASKS = ["read", "write", "seed", "push", "lock", "peek", "mark_asked", "pop", "next"];
+
+/** A number by which an ask is found again among all: of its word and of the first of its numbers. */
+function askKey(ask) {
+  const [word, said] = variant(variant(ask)[1]);
+  const number = said.version ?? said.request ?? said.ballot ?? said.after ?? said.through ?? said.seeded_to ?? said.epoch ?? 0;
+  return (number % 2 ** 26) * 16 + ASKS.indexOf(word);
 }
 
 /** All asks whose tells a proxy or a recoverer wants. */

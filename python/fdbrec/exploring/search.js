@@ -14,8 +14,8 @@ function storyOf(run) {
   }
   for (const it of run.rollbacks) items.push({ at: it.at, isMain: true, words: rollbackText(it) });
   for (const it of run.batches) if (it.outcome === "ended") items.push({ at: it.ended, words: `${batchName(it)}: its proxy stops without an answer; ${it.fate}` });
-  for (const entry of run.entries) if (entry.word === "crashed" || entry.word === "lost") items.push({ at: entry.at, words: entryText(run, entry).replace(/\.$/, "") });
-  if (run.fault) items.push({ at: Math.max(0, run.fault.at), isMain: true, words: `fault: ${run.fault.line}` });
+  for (const at of run.ends) items.push({ at, words: entryText(run, run.entry(at)).replace(/\.$/, "") });
+  if (run.fault) items.push({ at: Math.max(0, run.fault.at), isMain: true, words: `fault: ${run.fault.says.replace(/\.$/, "")}` });
   return items.sort((a, b) => a.at - b.at);
 }
 
@@ -61,7 +61,7 @@ function lineOf(run, entry) {
 /** What can be sought, each with an example of this run where it has one. */
 function soughtIn(run) {
   const { batches, recoveries, rollbacks } = run, numbered = batches.find((it) => it.version !== null), key = batches.flatMap((it) => keysOf(it.batch))[0];
-  const log = run.named.find((it) => it.kind === "log"), isIn = (word) => run.entries.some((it) => it.word === word);
+  const log = run.named.find((it) => it.kind === "log"), isIn = (word) => run.ends.some((at) => run.entry(at).word === word);
   const rows = [["batch", `batch ${batches.length ? batches[Math.min(1, batches.length - 1)].number : 1}`], ["version", `version ${numbered ? numbered.version : 2}`]];
   rows.push(["key, in hex or as text", `key ${key ? printable(key) ?? key : "a"}`], ["node", log ? log.name : "log 257 0"], ["entry", "entry 0"]);
   rows.push(["recovery", recoveries.length ? `recovery ${recoveries[0].ballot}` : null], ["rollback", rollbacks.length ? "rollback" : null]);
@@ -91,14 +91,14 @@ const FINDS = {
   batch: (run, rest) => batchesOf(run, (it) => rest === "" || it.number === Number(rest), rest === "" ? 200 : 1, rest === ""),
   version: (run, rest) => versionItems(run, Number(rest)),
   key: (run, rest) => keyItems(run, rest),
-  entry: (run, rest) => (rest !== "" && Number(rest) < run.entries.length ? [lineOf(run, run.entries[Number(rest)])] : []),
+  entry: (run, rest) => (/^\d+$/.test(rest) && Number(rest) < run.entries.length ? [lineOf(run, run.entry(Number(rest)))] : []),
   node: (run, rest) => {
     const node = [...run.nodes.values()].find((it) => it.name === rest.toLowerCase());
     return node ? entriesOf(run, (it) => it.node === node) : nodesOf(run, rest.toLowerCase());
   },
   rollback: (run) => run.rollbacks.map((it) => ({ at: it.at, words: rollbackText(it) })),
-  crash: (run) => run.entries.filter((it) => it.word === "crashed").map((it) => lineOf(run, it)),
-  lost: (run) => run.entries.filter((it) => it.word === "lost").map((it) => lineOf(run, it)),
+  crash: (run) => endsOf(run, "crashed"),
+  lost: (run) => endsOf(run, "lost"),
   fault: ({ fault }) => (fault ? [{ at: Math.max(0, fault.at), words: fault.line }] : []),
   recovery: (run, rest) => recoveryItems(run, rest),
   kind: (run, _, whole) => nodesOf(run, whole),
@@ -110,6 +110,11 @@ function batchesOf(run, test, most, isShort = false) {
   const more = all.length > most ? [{ head: `.. and ${all.length - most} more batches` }] : [];
   if (isShort) return [...shown.map((it) => ({ at: it.at, words: `${batchName(it)}: ${it.fate}` })), ...more];
   return [...shown.flatMap((it) => wayItems(run, it)), ...more];
+}
+
+/** The entries at which a node crashes, or a log is lost. */
+function endsOf(run, word) {
+  return run.ends.map((at) => run.entry(at)).filter((it) => it.word === word).map((it) => lineOf(run, it));
 }
 
 function entriesOf(run, test) {

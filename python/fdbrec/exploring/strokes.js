@@ -110,7 +110,7 @@ Object.assign(Picture.prototype, {
   drawMarks() {
     const [from, upto] = this.seen, lastAt = new Map();
     for (let column = from; column <= upto; column++) {
-      const entry = this.run.entries[this.entryAt[column]];
+      const entry = this.run.entry(this.entryAt[column]);
       if (!entry || !this.isInView(entry.node)) continue;
       const x = this.xOf(column), pixel = Math.round(x), mark = markOf(entry), { row } = entry.node;
       if (this.scale < 2 && lastAt.get(row) === pixel && !mark.isGreat) continue;
@@ -119,7 +119,7 @@ Object.assign(Picture.prototype, {
       this.drawMark(entry, mark, x, this.yOf(entry.node));
     }
     const { fault } = this.run;
-    if (fault && fault.at >= 0) this.drawFault(this.xOf(this.column(fault.at)), fault.node || this.run.entries[fault.at].node);
+    if (fault && fault.at >= 0) this.drawFault(this.xOf(this.column(fault.at)), fault.node || this.run.entry(fault.at).node);
   },
 
   drawMark(entry, mark, x, y) {
@@ -189,7 +189,11 @@ function rollbackTip(it) {
 }
 
 function epochTip({ epoch, from, m, k }) {
-  return `Epoch ${epoch}, from entry ${from} on: ${countText(m, "log")}, each shard on ${k} of them.`;
+  return `Epoch ${epoch}, from entry ${from} on: ${countText(m, "log")}, each shard on ${k} of them. An epoch has the number of its ballot. ${ballotText(epoch)}`;
+}
+
+function ballotText(ballot) {
+  return `${ballot} is round ${Math.floor(ballot / 256)} of recoverer ${ballot % 256}: a ballot is round × 256 + recoverer.`;
 }
 
 function foldTip({ groups }) {

@@ -27,66 +27,67 @@ function differences(wanted, got, path = "") {
   return names.flatMap((it) => differences(wanted[it], got[it], path ? `${path}.${it}` : it));
 }
 
-/** An expected value beside one that stands there, in words: both, and the places at which they differ. */
-function unlikeWords(is, wanted, but, got) {
-  const all = differences(wanted, got), found = all.slice(0, 5);
-  const rest = all.length > 5 ? [`.. and at ${all.length - 5} further places.`] : [];
-  const places = found.map(([path, a, b]) => `At ${path}: ${shortText(a)} is expected, and ${shortText(b)} stands there.`);
-  return [...places, ...rest, `${is} ${shortText(wanted)}`, `${but} ${shortText(got)}`];
+/** Two values that had to be the same: how each is called, each in words and as it stands, and where they differ. */
+function sidesOf(names, values, inWords) {
+  const all = differences(...values), more = all.length > 5 ? [`.. and at ${all.length - 5} further places.`] : [];
+  const places = all.slice(0, 5).map(([path, ...both]) => `At ${path}: ${names.map((it, at) => `${it} ${shortText(both[at])}`).join(", ")}.`);
+  return { names, values, words: values.map(inWords), places: [...places, ...more] };
 }
 
-/** Why an entry cannot be, in words; null where it can. */
+const BY_RULES = ["by the rules", "in the journal"], SENT = ["last sent", "what came"], GIVEN = ["last given", "what came"];
+
+/** Why an entry cannot be: a sentence, and what was sent or told beside what came; null where it can. */
 function whyNot(run, entry) {
-  const { node, word, at, from } = entry;
+  const { node, word, at, from } = entry, says = (text) => ({ says: text });
   if (word === "begun") return whyNotBegun(node);
-  if (node.machine === null) return [`${node.name} does something and is not there.`];
-  if (node.gone < at) return [`${node.name} does something and is gone: it ${run.entries[node.gone].word === "lost" ? "was lost" : "crashed"} at entry ${node.gone}.`];
+  if (node.machine === null) return says(`${node.name} does something, and there is no such node at that time.`);
+  if (node.gone < at) return says(`${node.name} does something after it ${run.entries[node.gone].word === "lost" ? "was lost for good" : "crashed"}, at entry ${node.gone}.`);
   if (word === "asked") return whyNotAsked(run, node, entry, from);
   if (word === "heard") return whyNotHeard(run, node, entry, from);
-  if (word === "lost" && node.kind !== "log") return [`Only a log can be lost, and ${node.name} is none.`];
+  if (word === "lost" && node.kind !== "log") return says(`${node.name} is lost for good, and only a log can be.`);
   if (word !== "submitted") return null;
-  if (node.kind !== "proxy") return [`Only a proxy takes a batch, and ${node.name} is none.`];
-  if (node.machine.open) return [`${node.name} takes a batch while another one is under way.`];
-  return node.machine.ended ? [`${node.name} takes a batch after its end.`] : null;
+  if (node.kind !== "proxy") return says(`${node.name} takes a batch, and only a proxy does.`);
+  if (node.machine.open) return says(`${node.name} takes a batch while another one is under way.`);
+  return node.machine.ended ? says(`${node.name} takes a batch after it has stopped.`) : null;
 }
 
 function whyNotBegun(node) {
-  if (node.kind !== "recoverer") return [`Only a recoverer begins, and ${node.name} is none.`];
+  if (node.kind !== "recoverer") return { says: `${node.name} begins, and only a recoverer does.` };
   const isUsed = node.machine !== null || [0, FIRST].includes(node.what.ballot);
-  return isUsed ? [`Ballot ${node.what.ballot} is used already.`] : null;
+  return isUsed ? { says: `${node.name} begins, and its ballot ${node.what.ballot} is used already.` } : null;
 }
 
-const ASKS_OF = { cell: "cell", log: "log", sequencer: "seq" };
+const ASKS_OF = { cell: "cell", log: "log", sequencer: "seq" }, ASKED_OF = { cell: "coordinator", log: "log", seq: "sequencer" };
 
 function whyNotAsked(run, node, { ask, send }, by) {
   const [kind, named] = variant(ask), [word, said] = variant(named);
-  if (ASKS_OF[node.kind] !== kind) return [`${node.name} is asked as a ${kind} is.`];
+  if (ASKS_OF[node.kind] !== kind) return { says: `${node.name} gets a request that only a ${ASKED_OF[kind]} takes.` };
   if (run.sent[send]) return null;
   if (by.kind === "storage" && by.machine !== null && kind === "log") return whyNotOfStorage(by, word, said);
   const sent = run.lastSent(by, node, word);
-  const head = `${by.name} never sent this ask to ${node.name}.`;
-  return sent ? [head, ...unlikeWords("Its last one of that kind is", sent, "what came is", ask)] : [head, `It sent no ${word} there before.`];
+  const says = `${node.name} gets a request that ${by.name} never sent it${sent ? "" : `: until then it sent it no request \`${word}\` at all`}.`;
+  return { says, sides: sent && sidesOf(SENT, [sent, ask], askText) };
 }
 
 /** A storage server may ask any log for records of its tag and for the mark, and have what it has for good let go. */
 function whyNotOfStorage(by, word, said) {
-  const { tag, floor, state } = by.machine;
+  const { tag, floor, state } = by.machine, says = (text) => ({ says: `${by.name} ${text}.` });
   if (word === "mark_asked") return null;
-  if (!["peek", "pop"].includes(word)) return [`${by.name} is a storage server, and asks to ${word}.`];
-  if (said.tag !== tag) return [`${by.name} asks for shard ${said.tag}, and its own is ${tag}.`];
+  if (!["peek", "pop"].includes(word)) return says(`sends a log a request \`${word}\`, and a storage server sends none`);
+  if (said.tag !== tag) return says(`asks for shard ${said.tag}, and its own is ${tag}`);
   if (word === "peek") return null;
-  if (said.through > floor) return [`${by.name} lets its records go through ${said.through}, and its floor is ${floor}: no more than that is its for good.`];
-  return state.gens.some((it) => it.epoch === said.epoch) ? null : [`${by.name} lets records of epoch ${said.epoch} go, a generation that it has not.`];
+  if (said.through > floor) return says(`lets its records go through version ${said.through}, and has them for good through ${floor} only`);
+  return state.gens.some((it) => it.epoch === said.epoch) ? null : says(`lets records of epoch ${said.epoch} go, a generation that it does not know`);
 }
 
 function whyNotHeard(run, node, { tell, told: number, what: { taken } }, by) {
   const [kind, named] = variant(tell), [word] = variant(named);
-  if (!["proxy", "recoverer", "storage"].includes(node.kind)) return [`${node.name} hears something: only proxies, recoverers and storage servers do.`];
-  if (taken !== null && node.kind !== "storage") return [`Only a storage server's hear breaks off.`];
+  if (!["proxy", "recoverer", "storage"].includes(node.kind)) return { says: `${node.name} hears a reply, and only proxies, recoverers and storage servers do.` };
+  if (taken !== null && node.kind !== "storage") return { says: `${node.name} breaks off in the middle of a reply, and only a storage server does.` };
   if (run.toldLast[number] >= 0) return null;
   const told = run.lastTold(by, node, word);
-  const head = `${by.name} never told ${node.name} this.`;
-  return told ? [head, ...unlikeWords("What it told last of that kind is", told, "what is heard is", tell)] : [head, `It told it no ${word} of a ${kind} before.`];
+  const says = `${node.name} hears a reply that ${by.name} never gave it${told ? "" : `: until then it gave it no reply \`${word}\` of a ${ASKED_OF[kind]} at all`}.`;
+  return { says, sides: told && sidesOf(GIVEN, [told, tell], tellText) };
 }
 
 // ---- entries
@@ -146,6 +147,17 @@ function recordsText(records) {
   if (!records.length) return "no records";
   const versions = records.map((it) => it.version);
   return versions.length > 6 ? `${versions.length} records, ${versions[0]} to ${versions[versions.length - 1]}` : `records at ${versions.join(", ")}`;
+}
+
+/** A node's last state as a journal has it: its parts by name. */
+function stateWords(last) {
+  return Object.entries(variant(last)[1]).map(([name, it]) => `${name} ${typeof it === "object" ? shortText(it) : it}`).join(", ");
+}
+
+/** What a proxy says of its batch, where one looks at that alone. */
+function outcomeWords(outcome) {
+  const [word, it] = variant(outcome);
+  return { committed: () => `the batch is acknowledged at version ${it.version}`, ended: () => "it stops, and its client gets no answer", waiting: () => "nothing yet" }[word]?.() ?? "nothing";
 }
 
 function outcomeText(outcome) {
