@@ -63,7 +63,7 @@ is_true_some None e = absurd (true≢false (sym e))
 is_true_some (Some x) e = refl
 
 -- a log takes it, if it is seeded, was not locked, and has its mark
-takes : (l : LogState) (q : PushContent) → q.epoch ≡ l.epoch → is_some l.seed ≡ true → l.stopped ≡ false → q.prev ≡ durable_of l → seeded_to_of l.seed < durable_of l → q.mark ≡ None → list_all (λ (b : Body). holds l b.tag) q.bodies ≡ true → push_refusal l q ≡ None
+pub takes : (l : LogState) (q : PushContent) → q.epoch ≡ l.epoch → is_some l.seed ≡ true → l.stopped ≡ false → q.prev ≡ durable_of l → seeded_to_of l.seed < durable_of l → q.mark ≡ None → list_all (λ (b : Body). holds l b.tag) q.bodies ≡ true → push_refusal l q ≡ None
 takes l q own seeded running follows marked plain mine =
     ap (λ b. cond (not b) (Some WrongEpoch) (cond (is_none l.seed) (Some Unseeded) (cond (is_push_held l q) None (new_push_refusal l q)))) (eq-eqb q.epoch l.epoch own)
     ∙ ap (λ b. cond b (Some Unseeded) (cond (is_push_held l q) None (new_push_refusal l q))) (is_true_some l.seed seeded)

@@ -4,3 +4,6 @@ pub mod Pushing
 pub mod Committing
 pub mod Fresh
 pub mod Returning
+pub mod Sent
+pub mod Landing
+pub mod First

@@ -75,7 +75,7 @@ marked_push [] x e = absurd (cc)
 marked_push (q ∷ ps) x e = (q, Contains-here q ps, e)
 
 -- has come to the mark's version
-marked_reaches : Laws → (c : Config) (h : List Turn) → IsRun c h → (e i : ℕ) (g : LogGeneration) (x : CoordinatedState) → generation_at c h e ≡ Some g → i < logs_at c h e → mark_among (log_at c h e i).pushes ≡ Some x → HasReached c h e i (g.seeded_to + 1)
+pub marked_reaches : Laws → (c : Config) (h : List Turn) → IsRun c h → (e i : ℕ) (g : LogGeneration) (x : CoordinatedState) → generation_at c h e ≡ Some g → i < logs_at c h e → mark_among (log_at c h e i).pushes ≡ Some x → HasReached c h e i (g.seeded_to + 1)
 marked_reaches laws c h run e i g x of there mark = push_is_reached laws.contents.nodes c h run e i (g.seeded_to + 1) (record { there = there; push = held.0; held = held.1; at = placed.0 ∙ ap mark_version of })
   where
     held : (q : PushContent) × Contains (log_at c h e i).pushes q × (q.mark ≡ Some x)

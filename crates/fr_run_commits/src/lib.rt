@@ -2,4 +2,5 @@
 //! storage server.
 #![tactic(auto)]
 
+pub mod example;
 pub mod laws;
