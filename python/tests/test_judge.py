@@ -46,7 +46,7 @@ class Judge(unittest.TestCase):
             (text.replace('"degree":1', '"degree":true'), "column 38: config.degree: found true, wanted a number"),
             (text.replace('"stamp":5', '"stamp":2'), "journals[0]: found an object, whose parts do not go together"),
             (text.replace('"step":1}', '"step":1,"z":0}', 1), 'submitted.z: found "z", wanted an object of batch'),
-            ("\ufeff" + text, "line 1, column 1: found \\ufeff, which is no JSON here"),
+            ("\ufeff" + text, "line 1, column 1: found a byte order mark; save the script"),
             ("", "standard input is empty"),
         )
         for script, says in rows:

@@ -34,8 +34,8 @@ def no_store(name):
 
 
 def look_at_store(command, name):
-    """Refuses a name at which no store can be opened, by the program's own words. A missing file is made by apply, and by
-    it alone. Where it is not sure, the program decides."""
+    """Refuses a name at which no store can be opened, by the program's own words. A missing file is made by apply, and
+    by it alone. Where it is not sure, the program decides."""
     if not name:
         raise unopened(name, "the name is empty")
     if len(os.fsencode(os.path.basename(name))) > LONGEST - len("-journal"):

@@ -4,6 +4,7 @@
 mod db;
 mod fault;
 mod host;
+mod locks;
 mod memory_file;
 mod refused;
 mod show;

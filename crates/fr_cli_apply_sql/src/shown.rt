@@ -1,23 +1,19 @@
 //! Files of the host as they are shown: opened to be read alone, and copied into memory as they are at one moment.
 use crate::fault::{DbFault, FileFault};
+use crate::locks::is_had;
 use crate::memory_file::{MemoryFile, files_of};
 use crate::refused::{Want, refused, unread};
-use os::RangeLock;
 use sqlite_disk::Files;
 use std::alloc::Global;
 use std::io::{ErrorKind, Read};
-use std::os::fd::AsRawFd;
 use std::os::unix::fs::{FileExt, MetadataExt};
 use std::{fs, io};
 
 /// What each database begins with.
 const HEAD: &[u8] = b"SQLite format 3\0";
 
-/// Where SQLite's locks on a file are, and how many bytes they are.
-const LOCKS: (u64, u64) = (1 << 30, 512);
-
-/// The database of a name and its log, in memory. Nothing is made, and nothing is written. Whoever opens a store to
-/// change it finds it locked meanwhile.
+/// The database of a name and its log, in memory. Nothing is made, nothing is written and nothing is locked. A database
+/// that somebody has, or changes meanwhile, is `Busy`.
 pub(crate) fn shown_files(
     rt: &HostRuntime,
     alloc: Global,
@@ -31,7 +27,7 @@ pub(crate) fn shown_files(
         Ok(db) => db,
         Err(error) => return Err(refused(rt, name, Want::Read, error)),
     };
-    lock(&db)?;
+    refuse_had(rt, alloc, &db)?;
     if has_journal(rt, format!(in alloc; "{}-journal", real.as_str())?.as_str()) {
         return Err(DbFault::Files(FileFault::Journal));
     }
@@ -50,22 +46,19 @@ pub(crate) fn shown_files(
     }
 }
 
-/// Keeps others from changing a file, until it is dropped. It has one name, since a log could lie beside another one.
-fn lock(db: &fs::File) -> Result<(), DbFault> {
-    match db.metadata() {
-        Ok(found) if found.nlink() == 1 => {}
-        Ok(_) => return Err(DbFault::Files(FileFault::SecondName)),
+/// Refuses a database that somebody has to change it, and one of two names: a log could lie beside the other name.
+fn refuse_had(rt: &HostRuntime, alloc: Global, db: &fs::File) -> Result<(), DbFault> {
+    let found = match db.metadata() {
+        Ok(found) => found,
         Err(error) => return Err(unread(error)),
+    };
+    if found.nlink() != 1 {
+        return Err(DbFault::Files(FileFault::SecondName));
     }
-    let (start, len) = LOCKS;
-    if os::try_lock_range(db.as_raw_fd(), RangeLock::Shared, start, len) == 0 {
-        return Ok(());
+    if is_had(rt, alloc, &found)? {
+        return Err(DbFault::Files(FileFault::Busy));
     }
-    let error = io::Error::from_raw_os_error(os::errno());
-    Err(DbFault::Files(match error.kind() {
-        ErrorKind::WouldBlock => FileFault::Busy,
-        _ => FileFault::Unopened,
-    }))
+    Ok(())
 }
 
 /// Whether a journal is there that sqlite3 has to play back, or something else than a file. One that begins with a zero
@@ -90,8 +83,8 @@ fn is_begun(rt: &HostRuntime, path: &str) -> bool {
     }
 }
 
-/// The bytes of a database and of its log at one moment, if they were the same when they were read again: sqlite3 may
-/// change them under locks of its own. What is no database is `InvalidData`.
+/// The bytes of a database and of its log at one moment, if they were the same when they were read again: others may
+/// change them meanwhile, since nothing is locked. What is no database is `InvalidData`.
 fn copied(
     alloc: Global,
     db: &fs::File,

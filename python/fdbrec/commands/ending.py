@@ -10,8 +10,7 @@ import zlib
 from ..scripts import places, quick, schemas
 from ..scripts.collected import BadScript
 
-MARKS = {b"\xef\xbb\xbf": "it begins with a byte order mark: save it as UTF-8 without one"}
-MARKS |= {it: "it is UTF-16: save it as UTF-8" for it in (b"\xff\xfe", b"\xfe\xff")}
+MARKS = {it: "it is UTF-16: save it as UTF-8" for it in (b"\xff\xfe", b"\xfe\xff")}
 
 
 class BadWords(Exception):
@@ -76,8 +75,6 @@ def run_script_of(data):
 
 def script_of(command, data):
     """The script that bytes are, as `fdbrec COMMAND` takes it."""
-    if not data:
-        raise BadScript("standard input is empty")
     try:
         value = schemas.read(data)
     except schemas.Bad as why:

@@ -124,7 +124,8 @@ def main(words):
     if len(words) == 2 and words[0] == "--name":
         name, words = words[1], []
     if words[:1] == ["--name"]:
-        raise ending.BadWords(f"one name goes with it: {ending.called('explore')} --name NAME < SCRIPT > RUN.html")
+        usage = f"{ending.called('explore')} --name NAME < SCRIPT > RUN.html"
+        raise ending.BadWords(f"--name goes with one name, and the script comes on standard input: {usage}")
     if words and not os.path.exists(words[0]):
         raise ending.BadWords(f"unexpected word {words[0]!r}: explore has --name NAME alone, and reads standard input")
     ending.no_words(words, "explore")

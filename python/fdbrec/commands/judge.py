@@ -55,7 +55,7 @@ def parsed(words):
                 raise ending.BadWords("--report has the name of one file")
             report = rest.pop(0)
         elif word.startswith("-") and word != "-":
-            raise ending.BadWords(f"there is no word {word}: judge --help says which there are")
+            raise ending.BadWords(f"unexpected argument '{word}': judge --help says which there are")
         else:
             files.append(word)
     return files or ["-"], report

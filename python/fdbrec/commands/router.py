@@ -112,6 +112,9 @@ def command_of(text):
         raise argparse.ArgumentTypeError(f"{text!r} is no command: {why}") from None
     if not found:
         raise argparse.ArgumentTypeError(f"{text!r} names no program")
+    if shutil.which(found[0]) is None:
+        why = "it may not be run" if os.path.exists(found[0]) else "there is no such program"
+        raise argparse.ArgumentTypeError(f"{found[0]!r}: {why}")
     return found
 
 

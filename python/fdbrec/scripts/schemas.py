@@ -153,7 +153,8 @@ class Schemas:
     def others(self, value, schema, here, at):
         for name in value if isinstance(value, dict) else ():
             if name not in schema["properties"]:
-                yield at, f"a member {name} that it has not"
+                allowed = ", ".join(sorted(schema["properties"]))
+                yield at, f"unknown member {json.dumps(name)}; allowed: {allowed}"
 
     def items(self, value, schema, here, at):
         if isinstance(value, list):
