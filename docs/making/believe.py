@@ -35,6 +35,7 @@ BESIDE = (
         ),
     ),
     ("fr_run_outcomes", "example.rt", ("pops_law",)),
+    ("fr_run_commits", "laws.rt", ("service_law",)),
     ("fr_run_history", "laws.rt", ("real_time_law", "history_law", "machine_law")),
     ("fr_run_history", "example.rt", ("late_law",)),
 )

@@ -17,9 +17,8 @@ IsAsker b (node.Proxy e p) = ⊥
 IsAsker b (node.Recoverer x) = x ≡ b
 IsAsker b (node.Storage t) = Unit {0}
 
--- the own turns of a ballot: of its recoverer, of a cell or a log that its recoverer or a storage server asks, and of a
--- storage server that hears the whole of a tell. So nothing is lost, nothing crashes, no other ballot begins or is heard,
--- and no batch is submitted or numbered
+-- the own turns of a ballot: of its recoverer, of a cell or a log that it or a storage server asks, and of a storage server
+-- that hears the whole of a tell. Nothing is lost or crashes
 abbrev pub IsOwn : ℕ → Turn → Type 0
 IsOwn b (Begun x shape asks) = x ≡ b
 IsOwn b (CellTurn from i a t) = IsAsker b from

@@ -12,7 +12,7 @@ use Rattle.fr_run.specs.States.{state_of}
 use Rattle.fr_run.specs.StateLaws.{IsConfig}
 use Rattle.fr_run_outcomes.specs.Going.{GoesOn, LeavesChosen, LeavesOthers}
 
--- a run goes on by turns of a storage server and of logs that it asks, which are own turns of every ballot, to a moment at which it keeps the state of an epoch, or one whose own epoch is greater
+-- a run goes on by turns of a storage server and of logs that it asks to a moment at which it keeps the state of an epoch, or one whose own epoch is greater
 pub record HearsOn (c : Config) (h : List Turn) (e tag : ℕ) : Type 0 where
   pub later : List Turn
   pub goes_on : (b : ℕ) → GoesOn c b h later

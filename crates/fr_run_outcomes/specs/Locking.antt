@@ -20,8 +20,7 @@ use Rattle.fr_run_outcomes.specs.Going.{GoesOn}
 abbrev pub IsFewLost : List Turn → LogGeneration → Type 0
 IsFewLost h g = log_count g.m (lost_logs h g.epoch) < g.k
 
--- there is room after a state whose last generation is this one: its list has fewer than 64, so that one more fits, and
--- after what each log of the last one holds there is a version for the mark of the next
+-- after a state whose last generation is this one there is room: for one more generation, and for the version of its mark
 pub record HasRoomIn (c : Config) (h : List Turn) (s : CoordinatedState) (g : LogGeneration) : Type 0 where
   pub gens : length s.gens < 64
   pub versions : (i : ℕ) → i < g.m → durable_of (log_at c h g.epoch i) + 1 < 2 ^ 62
@@ -43,8 +42,8 @@ pub record LacksRoom (c : Config) (h : List Turn) (p : Parent) (r : RecState) : 
   pub found : HasNoRoom r
   pub never : HasRoomIn c h p.state p.last → ⊥
 
--- a run goes on by own turns of a ballot to a moment at which its recoverer knows the end of the epoch that it ends, and has
--- a plan, or there was no room at the start; if each log that had replied is up, each that replied by then is
+-- a run goes on by own turns of a ballot to a moment at which its recoverer has a plan, or there was no room at the start; if
+-- each log that had replied is up, each that replied by then is
 pub record LocksOn (c : Config) (h : List Turn) (b : ℕ) (p : Parent) (r : RecState) : Type 0 where
   pub later : List Turn
   pub goes_on : GoesOn c b h later

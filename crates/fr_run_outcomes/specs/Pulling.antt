@@ -19,7 +19,7 @@ pub record IsServed (c : Config) (h : List Turn) (e tag : ℕ) : Type 0 where
   pub keeps : (storage_at c h tag).state ≡ state_of c h e
   pub applied : least_durable c h e ≤ (storage_at c h tag).store.applied
 
--- a run goes on by turns of a storage server and of logs that it asks, which are own turns of every ballot, to a moment at which it does
+-- a run goes on by turns of a storage server and of logs that it asks to a moment at which it does
 pub record PullsOn (c : Config) (h : List Turn) (e tag : ℕ) : Type 0 where
   pub later : List Turn
   pub goes_on : (b : ℕ) → GoesOn c b h later
@@ -34,8 +34,7 @@ CommittedIsPulled =
     (c : Config) (h : List Turn) → IsConfig c → IsRun c h → (latest : ℕ) → IsLatest c h latest → AreFewLost c h latest → (tag : ℕ) → tag < length c.begins
     → (storage_at c h tag).state ≡ state_of c h latest → PullsOn c h latest tag
 
--- a run goes on by turns of storage servers and of logs that they ask, which are own turns of every ballot, to a moment at
--- which every storage server keeps the state of an epoch, and has applied all that each log of the epoch holds
+-- a run goes on by turns of storage servers and of logs that they ask to a moment at which each server does
 pub record AllServed (c : Config) (h : List Turn) (e : ℕ) : Type 0 where
   pub later : List Turn
   pub goes_on : (b : ℕ) → GoesOn c b h later
@@ -49,8 +48,7 @@ MarkedIsServed =
     (c : Config) (h : List Turn) → IsConfig c → IsRun c h → (e i : ℕ) (x : CoordinatedState) → IsLatest c h e → AreFewLost c h e → IsUp c h (node.Log e i)
     → mark_among (log_at c h e i).pushes ≡ Some x → AllServed c h e
 
--- a run goes on by own turns of an epoch's ballot to a moment at which every storage server keeps the state of the epoch, and
--- has applied all that each log of it holds
+-- a run goes on by own turns of an epoch's ballot to such a moment
 pub record AllPullOn (c : Config) (h : List Turn) (e : ℕ) : Type 0 where
   pub later : List Turn
   pub goes_on : GoesOn c e h later
@@ -58,8 +56,7 @@ pub record AllPullOn (c : Config) (h : List Turn) (e : ℕ) : Type 0 where
   pub each : (tag : ℕ) → tag < length c.begins → IsServed c later e tag
 
 -- so does each one in which the latest epoch is that of a recoverer which knows it to be chosen, if fewer than k logs of
--- each generation of it are lost, and one log of its own is up and was not locked: that log takes the mark, each server
--- hears it, and then pulls
+-- each generation of it are lost, and one log of its own is up and was not locked
 abbrev pub ChosenIsServed : Type 0
 ChosenIsServed =
     (c : Config) (h : List Turn) → IsConfig c → IsRun c h → (b : ℕ) (r : RecState) → rec_at c h b ≡ Some r → r.phase ≡ Chosen → IsLatest c h b → AreFewLost c h b

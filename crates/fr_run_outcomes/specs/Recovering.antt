@@ -32,8 +32,7 @@ pub record RecoversOn (c : Config) (h : List Turn) (b cell : ℕ) : Type 0 where
   pub found : recoverer.reads.greatest ≡ pair_at c h cell
   pub chosen : recoverer.phase ≡ Chosen
 
--- so does each one, for each ballot that may begin and above which no cell of some majority promised, if the greatest state that these cells have, that of the
--- first one, has logs left, and after it there is room
+-- so does each one, under the conditions of ReadingEnds, if the first cell's state has logs left, and after it there is room
 abbrev pub NoDeadEnd : Type 0
 NoDeadEnd =
     (c : Config) (h : List Turn) → IsConfig c → IsRun c h → (b : ℕ) (shape : Option ShapeContent) → rec_at c h b ≡ None → MayBegin b → IfSome shape IsShape
@@ -41,7 +40,7 @@ NoDeadEnd =
     → All (λ i. (cell_at c h i).written ≤ (cell_at c h first).written) others → HasLogsLeft c h first → HasRoom c h first → RecoversOn c h b first
 
 -- a run goes on by own turns of a ballot to a moment at which its recoverer has found that there is no room. There was
--- none at the start: nothing that happened on the way took it
+-- none at the start
 pub record FillsOn (c : Config) (h : List Turn) (b cell : ℕ) : Type 0 where
   pub later : List Turn
   pub goes_on : GoesOn c b h later
@@ -51,8 +50,7 @@ pub record FillsOn (c : Config) (h : List Turn) (b cell : ℕ) : Type 0 where
   pub room : HasNoRoom recoverer
   pub full : HasRoom c h cell → ⊥
 
--- without room each one goes on to such a moment or, if the recovery drops generations of which the storage servers have
--- all for good, to a choice
+-- without room each one goes on to such a moment, or to a choice
 abbrev pub RecoveryEnds : Type 0
 RecoveryEnds =
     (c : Config) (h : List Turn) → IsConfig c → IsRun c h → (b : ℕ) (shape : Option ShapeContent) → rec_at c h b ≡ None → MayBegin b → IfSome shape IsShape

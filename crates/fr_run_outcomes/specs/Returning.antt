@@ -23,8 +23,7 @@ abbrev pub HasEachLeft : Config → List Turn → ℕ → Type 0
 HasEachLeft c h i = (s : CoordinatedState) → reading (cell_at c h i).value ≡ Ok s → All (IsFewLost h) s.gens
 
 -- a run goes on by own turns of a ballot to a moment at which its epoch is the latest that is chosen, and open, and every
--- storage server keeps its state and has applied all that each log of it holds. Of each generation of this state fewer than k logs
--- are lost. What its recoverer read is the pair of one cell
+-- storage server keeps its state and has applied all that each log of it holds
 pub record ServesOn (c : Config) (h : List Turn) (b cell : ℕ) : Type 0 where
   pub later : List Turn
   pub goes_on : GoesOn c b h later
@@ -37,8 +36,7 @@ pub record ServesOn (c : Config) (h : List Turn) (b cell : ℕ) : Type 0 where
   pub few : AreFewLost c later b
   pub each : (tag : ℕ) → tag < length c.begins → IsServed c later b tag
 
--- so does each one, for each ballot that may begin and above which no cell of some majority promised, if the greatest
--- state that these cells have, that of the first one, has logs left in each generation, and after it there is room
+-- so does each one, under the conditions of NoDeadEnd, if the state has logs left in each generation
 abbrev pub ServiceReturns : Type 0
 ServiceReturns =
     (c : Config) (h : List Turn) → IsConfig c → IsRun c h → (b : ℕ) (shape : Option ShapeContent) → rec_at c h b ≡ None → MayBegin b → IfSome shape IsShape

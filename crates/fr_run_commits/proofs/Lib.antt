@@ -1,0 +1,9 @@
+pub mod Idle
+pub mod Asking
+pub mod Pushing
+pub mod Committing
+pub mod Fresh
+pub mod Returning
+pub mod Sent
+pub mod Landing
+pub mod First
