@@ -1,5 +1,6 @@
 //! Mutations, batches and their limits, and what each shard has of a batch.
 
+use crate::blob::Blob;
 use std::cmp::Ordering;
 use std::hash::{Hash, Hasher};
 use std::sync::Arc;
@@ -11,22 +12,22 @@ const LONGEST_VALUE: usize = 100_000;
 #[derive(Clone, Debug, PartialEq, Eq)]
 pub enum Mutation {
     Set {
-        key: Vec<u8>,
-        value: Vec<u8>,
+        key: Blob,
+        value: Blob,
     },
     Clear {
-        begin: Vec<u8>,
-        end: Vec<u8>,
+        begin: Blob,
+        end: Blob,
     },
     Combine {
         how: Combine,
-        key: Vec<u8>,
-        param: Vec<u8>,
+        key: Blob,
+        param: Blob,
     },
     /// The key loses its value where it is this one.
     CompareAndClear {
-        key: Vec<u8>,
-        value: Vec<u8>,
+        key: Blob,
+        value: Blob,
     },
 }
 
@@ -92,10 +93,10 @@ impl Hash for Batch {
 
 /// Where the shards begin, in rising order; the first one begins at the empty key.
 #[derive(Debug)]
-pub struct Shards(Vec<Vec<u8>>);
+pub struct Shards(Vec<Blob>);
 
 impl Shards {
-    pub fn new(begins: Vec<Vec<u8>>) -> Option<Self> {
+    pub fn new(begins: Vec<Blob>) -> Option<Self> {
         let are_few = (1..=32).contains(&begins.len());
         let are_keys = begins.iter().all(|begin| begin.len() <= LONGEST_KEY);
         let are_rising = begins.windows(2).all(|pair| pair[0] < pair[1]);
@@ -177,7 +178,7 @@ impl Mutation {
 impl Combine {
     /// The new value, made in the parameter's own place. The old value counts as cut, or extended by
     /// zero bytes, to the parameter's length.
-    pub fn apply(self, old: Option<&[u8]>, mut param: Vec<u8>) -> Vec<u8> {
+    pub fn apply(self, old: Option<&[u8]>, mut param: Blob) -> Blob {
         match (self, old) {
             (Combine::And | Combine::Max | Combine::Min, None) => {}
             (Combine::Add, old) => add(&mut param, old.unwrap_or_default()),

@@ -1,12 +1,13 @@
 //! A store with undo rows.
 
 use crate::batch::{Batch, Mutation};
+use crate::blob::Blob;
 use std::collections::btree_map::{BTreeMap, Entry};
 use std::collections::VecDeque;
 use std::mem;
 
 /// A key and the value that it had before, if any.
-type Row = (Vec<u8>, Option<Vec<u8>>);
+type Row = (Blob, Option<Blob>);
 
 /// The undo rows of one version; never none.
 struct Undo {
@@ -17,7 +18,7 @@ struct Undo {
 /// Keys with their values, and for each version above the floor what its batch changed.
 #[derive(Default)]
 pub struct Store {
-    values: BTreeMap<Vec<u8>, Vec<u8>>,
+    values: BTreeMap<Blob, Blob>,
     undo: VecDeque<Undo>,
     undo_rows: usize,
     applied: u64,
@@ -70,10 +71,10 @@ impl Store {
             return Err(StoreFault::AboveApplied);
         }
         let later = self.undo.iter().skip_while(|undo| undo.version <= version);
-        let found = later.flat_map(|undo| undo.rows.iter()).find(|row| row.0 == key);
+        let found = later.flat_map(|undo| undo.rows.iter()).find(|row| row.0.as_slice() == key);
         Ok(match found {
             Some((_, before)) => before.as_deref(),
-            None => self.values.get(key).map(Vec::as_slice),
+            None => self.values.get(key).map(Blob::as_slice),
         })
     }
 
@@ -110,9 +111,9 @@ impl Store {
     /// Writes a key, and notes the value before where that differs.
     fn write(
         &mut self,
-        key: Vec<u8>,
+        key: Blob,
         changes: &mut Vec<Row>,
-        new: impl FnOnce(Option<&[u8]>) -> Vec<u8>,
+        new: impl FnOnce(Option<&[u8]>) -> Blob,
     ) {
         match self.values.entry(key) {
             Entry::Occupied(mut entry) => {
