@@ -68,11 +68,16 @@ impl BatchFault {
 
 impl Batch {
     pub fn new(mutations: Vec<Mutation>) -> Result<Self, BatchFault> {
+        Self::check(&mutations)?;
+        Ok(Batch(mutations.into_boxed_slice()))
+    }
+
+    /// Whether mutations are within the limits.
+    pub fn check(mutations: &[Mutation]) -> Result<(), BatchFault> {
         if mutations.len() > MOST_MUTATIONS {
             return Err(BatchFault::TooMany);
         }
-        mutations.iter().try_for_each(Mutation::check)?;
-        Ok(Batch(mutations.into_boxed_slice()))
+        mutations.iter().try_for_each(Mutation::check)
     }
 
     pub fn into_mutations(self) -> Box<[Mutation]> {
@@ -118,6 +123,9 @@ impl Shards {
             let body = (0, batch.clone());
             return if batch.mutations().is_empty() { Vec::new() } else { vec![body] };
         }
+        if cfg!(feature = "by_hand") && !batch.mutations().iter().any(|it| matches!(it, Mutation::Clear { .. })) {
+            return self.bodies_of_keys(batch);
+        }
         let mut bodies: Vec<Vec<Mutation>> = vec![Vec::new(); self.0.len()];
         for mutation in batch.mutations() {
             match mutation {
@@ -142,7 +150,36 @@ impl Shards {
     }
 }
 
+impl Shards {
+    /// The same of a batch whose mutations have a key each: one look at each key, and room for what is there.
+    fn bodies_of_keys(&self, batch: &Arc<Batch>) -> Vec<(u8, Arc<Batch>)> {
+        let mut tags = [0; MOST_MUTATIONS];
+        let mut counts = [0; 32];
+        for (mutation, tag) in batch.mutations().iter().zip(&mut tags) {
+            let its = self.of(mutation.key());
+            *tag = its as u8;
+            counts[its] += 1;
+        }
+        let mut bodies = Vec::with_capacity(batch.mutations().len().min(self.0.len()));
+        for (tag, count) in (0..).zip(counts).filter(|(_, count)| *count > 0) {
+            let own = batch.mutations().iter().zip(&tags).filter(|(_, its)| **its == tag);
+            let mut body = Vec::with_capacity(count);
+            body.extend(own.map(|(mutation, _)| mutation.clone()));
+            bodies.push((tag, Arc::new(Batch(body.into_boxed_slice()))));
+        }
+        bodies
+    }
+}
+
 impl Mutation {
+    /// Its key; of a clear where it begins.
+    fn key(&self) -> &[u8] {
+        match self {
+            Mutation::Set { key, .. } | Mutation::Combine { key, .. } | Mutation::CompareAndClear { key, .. } => key,
+            Mutation::Clear { begin, .. } => begin,
+        }
+    }
+
     /// Whether it is a clear of no keys.
     fn is_empty(&self) -> bool {
         matches!(self, Mutation::Clear { begin, end } if begin == end)

@@ -9,14 +9,15 @@ use std::mem;
 pub fn print(operations: Vec<Operation>, output: &mut impl Write) -> io::Result<()> {
     let mut store = Store::default();
     for operation in operations {
-        print_operation(&mut store, operation, output)?;
+        let done = run(&mut store, operation);
+        print_line(&store, done, output)?;
     }
     print_rows(store, output)
 }
 
-/// Runs one operation and prints its line.
-pub fn print_operation(store: &mut Store, operation: Operation, output: &mut impl Write) -> io::Result<()> {
-    match run(store, operation) {
+/// Prints the line of an operation that was done or refused.
+pub fn print_line(store: &Store, done: Result<(), &'static str>, output: &mut impl Write) -> io::Result<()> {
+    match done {
         Ok(()) => say!(
             output,
             "ok ",
@@ -44,7 +45,7 @@ pub fn print_rows(store: Store, output: &mut impl Write) -> io::Result<()> {
 }
 
 /// Runs one operation, or answers the name of its refusal.
-fn run(store: &mut Store, operation: Operation) -> Result<(), &'static str> {
+pub fn run(store: &mut Store, operation: Operation) -> Result<(), &'static str> {
     match operation {
         Operation::Apply { version, batch } => {
             let batch = batch.map_err(|fault| fault.name())?;

@@ -19,6 +19,7 @@ mod cluster;
 #[cfg(feature = "by_hand")]
 #[path = "../by_hand/src/digits.rs"]
 mod digits;
+#[cfg_attr(feature = "by_hand", path = "../by_hand/src/end.rs")]
 mod end;
 mod folding;
 mod forms;

@@ -13,7 +13,8 @@ const LONGEST_CELL_VALUE: usize = 4_096;
 const MOST_RECORDS: usize = 100;
 
 /// A node. The order is that of the lines of an audit.
-#[derive(Clone, Copy, Debug, PartialEq, Eq, Hash, PartialOrd, Ord)]
+#[derive(Clone, Copy, Debug, PartialEq, Eq, PartialOrd, Ord)]
+#[cfg_attr(not(feature = "by_hand"), derive(Hash))]
 pub enum NodeId {
     Cell(u8),
     Log(LogId),
@@ -21,6 +22,24 @@ pub enum NodeId {
     Proxy(u64, u8),
     Recoverer(u64),
     Storage(u8),
+}
+
+/// A node's name is one number, which is hashed at once.
+#[cfg(feature = "by_hand")]
+impl Hash for NodeId {
+    #[inline]
+    fn hash<H: Hasher>(&self, hasher: &mut H) {
+        let (kind, long, short) = match *self {
+            NodeId::Cell(index) => (0, 0, index),
+            NodeId::Log(id) => (1, id.epoch, id.index),
+            NodeId::Sequencer(epoch) => (2, epoch, 0),
+            NodeId::Proxy(epoch, number) => (3, epoch, number),
+            NodeId::Recoverer(ballot) => (4, ballot, 0),
+            NodeId::Storage(tag) => (5, 0, tag),
+        };
+        // (epochs and ballots are below 2^48)
+        hasher.write_u64(long << 16 | u64::from(short) << 8 | kind);
+    }
 }
 
 object! {

@@ -23,6 +23,9 @@ pub struct Store {
     undo_rows: usize,
     applied: u64,
     floor: u64,
+    /// Room for the changes of a batch.
+    #[cfg(feature = "by_hand")]
+    room: Vec<Row>,
 }
 
 #[derive(Clone, Copy, Debug, PartialEq)]
@@ -79,9 +82,17 @@ impl Store {
     }
 
     pub fn apply(&mut self, version: u64, batch: Batch) -> Result<(), StoreFault> {
+        self.apply_all(version, IntoIterator::into_iter(batch.into_mutations()))
+    }
+
+    /// Applies mutations that are within the limits of a batch.
+    pub fn apply_all(
+        &mut self,
+        version: u64,
+        mutations: impl ExactSizeIterator<Item = Mutation>,
+    ) -> Result<(), StoreFault> {
         self.advance(version)?;
-        let mutations = batch.into_mutations();
-        let mut changes = Vec::with_capacity(mutations.len());
+        let mut changes = self.room_for(mutations.len());
         for mutation in mutations {
             match mutation {
                 Mutation::Set { key, value } => self.write(key, &mut changes, |_| value),
@@ -130,8 +141,39 @@ impl Store {
         }
     }
 
+    #[cfg(not(feature = "by_hand"))]
+    fn room_for(&self, changes: usize) -> Vec<Row> {
+        Vec::with_capacity(changes)
+    }
+
+    /// The room that the batch before left.
+    #[cfg(feature = "by_hand")]
+    fn room_for(&mut self, _: usize) -> Vec<Row> {
+        mem::take(&mut self.room)
+    }
+
+    /// The same with one allocation, and most often without a look at the store.
+    #[cfg(feature = "by_hand")]
+    fn rows_of(&mut self, mut changes: Vec<Row>) -> Box<[Row]> {
+        if changes.len() > 1 {
+            changes.sort_by(|one, other| one.0.cmp(&other.0));
+            if changes.windows(2).any(|pair| pair[0].0 == pair[1].0) {
+                let first_of_each = changes.chunk_by_mut(|one, next| one.0 == next.0);
+                let is_row = |each: &&mut [Row]| each.len() == 1 || self.values.get(&each[0].0) != each[0].1.as_ref();
+                let rows = first_of_each.filter(is_row).map(|each| mem::take(&mut each[0])).collect();
+                changes.clear();
+                self.room = changes;
+                return rows;
+            }
+        }
+        let rows = changes.drain(..).collect();
+        self.room = changes;
+        rows
+    }
+
     /// The undo rows of a batch, from its single changes in their order. A key that was changed once
     /// has another value now; one that was changed again may be back at its first.
+    #[cfg(not(feature = "by_hand"))]
     fn rows_of(&self, mut changes: Vec<Row>) -> Box<[Row]> {
         if changes.len() < 2 {
             return changes.into_boxed_slice();

@@ -1,10 +1,12 @@
 //! Runs each operation or step as soon as it is read. Its lines are kept until the whole text is known to be a script,
 //! since a bad one prints none. So there is no list of all operations, which took more memory than the script.
 
-use crate::lines::{print_operation, print_rows};
+use crate::batch::{Batch, BatchFault};
+use crate::lines::{print_line, print_rows, run};
 use crate::quick::{Quick, Reader};
-use crate::simulate::Play;
-use crate::store::Store;
+use crate::quick_forms::Next;
+use crate::simulate::{Play, StepForm};
+use crate::store::{Store, StoreFault};
 use crate::world::ConfigForm;
 use std::io::{self, Write};
 
@@ -14,7 +16,16 @@ pub fn apply(text: &[u8], output: &mut impl Write) -> Option<io::Result<()>> {
     let (mut store, mut lines) = (Store::default(), Vec::new());
     from.take(b'{')?;
     from.is_next(b"\"ops\":").then_some(())?;
-    each(&mut from, |operation| print_operation(&mut store, operation, &mut lines))?;
+    each(&mut from, |from| {
+        let done = match Next::quick(from)? {
+            Next::Apply { version } => Batch::check(&from.mutations).map_err(BatchFault::name).and_then(|()| {
+                let mutations = from.mutations.drain(..);
+                store.apply_all(version, mutations).map_err(StoreFault::name)
+            }),
+            Next::Other(operation) => run(&mut store, operation),
+        };
+        Some(print_line(&store, done, &mut lines))
+    })?;
     from.take(b'}')?;
     from.ends().then_some(())?;
     Some(output.write_all(&lines).and_then(|()| print_rows(store, output)))
@@ -30,18 +41,18 @@ pub fn simulate(text: &[u8], output: &mut impl Write) -> Option<io::Result<()>> 
     from.take(b',')?;
     from.is_next(b"\"steps\":").then_some(())?;
     let mut play = Play::start(config);
-    each(&mut from, |step| play.take_step(step, &mut lines))?;
+    each(&mut from, |from| Some(play.take_step(StepForm::quick(from)?, &mut lines)))?;
     from.take(b'}')?;
     from.ends().then_some(())?;
     Some(output.write_all(&lines).and_then(|()| play.print_storages(output)))
 }
 
-/// Does something with each item of a list.
-fn each<T: Quick>(from: &mut Reader, mut with: impl FnMut(T) -> io::Result<()>) -> Option<()> {
+/// Reads and runs each item of a list.
+fn each(from: &mut Reader, mut run: impl FnMut(&mut Reader) -> Option<io::Result<()>>) -> Option<()> {
     from.take(b'[')?;
     let mut has_more = from.has_any(b']');
     while has_more {
-        with(T::quick(from)?).expect("a vector takes all lines");
+        run(from)?.expect("a vector takes all lines");
         has_more = from.has_more(b']')?;
     }
     Some(())

@@ -2,7 +2,7 @@
 //! takes no call. More are on the heap.
 //!
 //! UNSAFE. A `Blob` is two words. The top byte of the second one is the tag. A tag of 1 to 16 says that there are so
-//! many bytes but one, in place: they stand from the first byte on, and zeros behind them. A tag of 17 says that the
+//! many bytes but one, in place: they stand from the first byte on, and zeros behind them. A tag of 128 says that the
 //! first word is the pointer of a `Box<[u8]>` and the rest of the second one its length. Every constructor makes one of
 //! these two, and nothing else writes a word. Measured (`apply small 10,000`): the allocator took 23 million
 //! instructions of 138 with `Vec<u8>`, and the trees, which called `memcmp` for each key, 13.
@@ -15,7 +15,7 @@ use std::ops::{Deref, DerefMut};
 use std::slice;
 
 const MOST_IN_PLACE: usize = 15;
-const ON_HEAP: u64 = 17;
+const ON_HEAP: u64 = 1 << 63;
 const LENGTH: u64 = (1 << 56) - 1;
 
 #[derive(Clone, Copy)]
@@ -49,14 +49,14 @@ impl Blob {
 
     #[inline]
     fn on_heap(bytes: Box<[u8]>) -> Self {
-        let high = ON_HEAP << 56 | bytes.len() as u64;
+        let high = ON_HEAP | bytes.len() as u64;
         let pointer = Box::into_raw(bytes).cast::<u8>();
         Blob { low: Low { pointer }, high: NonZeroU64::new(high).expect("a tag is not 0") }
     }
 
     #[inline]
     fn is_on_heap(&self) -> bool {
-        self.high.get() >> 56 == ON_HEAP
+        self.high.get() & ON_HEAP != 0
     }
 
     #[inline]
@@ -76,11 +76,17 @@ impl Blob {
         unsafe { slice::from_raw_parts(pointer, length) }
     }
 
-    /// Both words of bytes in place, in the order in which they compare: zeros behind the bytes, then how many they are.
+    /// The first word of bytes in place.
     #[inline]
-    fn order(&self) -> u128 {
+    fn word(&self) -> u64 {
+        debug_assert!(!self.is_on_heap());
         // SAFETY: it is called of bytes in place alone, whose first word is a number.
-        u128::from(unsafe { self.low.word }.swap_bytes()) << 64 | u128::from(self.high.get().swap_bytes())
+        unsafe { self.low.word }
+    }
+
+    #[cold]
+    fn cmp_on_heap(&self, other: &Self) -> Ordering {
+        self.as_slice().cmp(other.as_slice())
     }
 }
 
@@ -175,7 +181,7 @@ impl PartialEq for Blob {
         self.high == other.high
             && match self.is_on_heap() {
                 true => self.as_slice() == other.as_slice(),
-                false => self.order() == other.order(),
+                false => self.word() == other.word(),
             }
     }
 }
@@ -185,9 +191,15 @@ impl Eq for Blob {}
 impl Ord for Blob {
     #[inline]
     fn cmp(&self, other: &Self) -> Ordering {
-        match self.is_on_heap() | other.is_on_heap() {
-            true => self.as_slice().cmp(other.as_slice()),
-            false => self.order().cmp(&other.order()),
+        let (high, other_high) = (self.high.get(), other.high.get());
+        if (high | other_high) & ON_HEAP != 0 {
+            return self.cmp_on_heap(other);
+        }
+        // Behind the bytes are zeros, and the tag, which is last, orders those that zeros make alike by their number.
+        let (word, other_word) = (self.word(), other.word());
+        match word == other_word {
+            true => high.swap_bytes().cmp(&other_high.swap_bytes()),
+            false => word.swap_bytes().cmp(&other_word.swap_bytes()),
         }
     }
 }

@@ -24,6 +24,23 @@ fn find_quote_16(bytes: &[u8; 16]) -> usize {
     return plain::find_quote_16(bytes);
 }
 
+/// The number of eight decimal digits, if so many are there.
+#[inline]
+pub fn eight(digits: &[u8]) -> Option<u64> {
+    const ALL: u64 = 0x0101_0101_0101_0101;
+    let bytes = u64::from_le_bytes(*digits.first_chunk()?);
+    // Both a digit and a digit with 6 added have a 3 in their upper half.
+    let is_digits = (bytes | bytes.wrapping_add(6 * ALL)) & (0xf0 * ALL) == 0x30 * ALL && bytes & (0xf0 * ALL) == 0x30 * ALL;
+    if !is_digits {
+        return None;
+    }
+    // Of each two, each four, and all eight: the first part counts 10, 100, 10,000 times.
+    let halves = bytes & (0x0f * ALL);
+    let pairs = halves.wrapping_mul(10 << 8 | 1) >> 8 & 0x00ff_00ff_00ff_00ff;
+    let fours = pairs.wrapping_mul(100 << 16 | 1) >> 16 & 0x0000_ffff_0000_ffff;
+    Some(fours.wrapping_mul(10_000 << 32 | 1) >> 32)
+}
+
 /// The first 16 bytes, or all there are and zeros behind them.
 #[inline]
 fn front(bytes: &[u8]) -> [u8; 16] {
@@ -187,7 +204,7 @@ mod plain {
 
 #[cfg(test)]
 mod tests {
-    use super::{decode, decode_16, encode, encode_16, find_quote, find_quote_16, plain};
+    use super::{decode, decode_16, eight, encode, encode_16, find_quote, find_quote_16, plain};
 
     #[test]
     fn sixteen_at_once_are_as_one_by_one() {
@@ -204,6 +221,21 @@ mod tests {
                 chunk[place] = kept;
             }
         }
+    }
+
+    #[test]
+    fn eight_digits_are_a_number() {
+        for number in [0, 1, 9, 10, 12_345_678, 87_654_321, 99_999_999, 10_000_000] {
+            assert_eq!(eight(format!("{number:08}").as_bytes()), Some(number));
+        }
+        for place in 0..8 {
+            for byte in 0..=255_u8 {
+                let mut digits = *b"12345678 ";
+                digits[place] = byte;
+                assert_eq!(eight(&digits).is_some(), byte.is_ascii_digit(), "{digits:?}");
+            }
+        }
+        assert_eq!(eight(b"1234567"), None);
     }
 
     #[test]

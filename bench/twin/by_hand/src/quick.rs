@@ -28,6 +28,9 @@ pub struct Reader<'a> {
     pub mutations: Vec<Mutation>,
 }
 
+/// How many times 16 digits are decoded before it is known how many there are.
+const ROOM: usize = 16;
+
 /// What stands for a byte behind the end, or one that is no JSON.
 const END: u8 = 0;
 
@@ -107,10 +110,21 @@ impl<'a> Reader<'a> {
         let mut number: u64 = 0;
         let digits = &self.text[self.at..];
         let mut length = 0;
-        while let Some(digit) = digits.get(length).map(|byte| byte.wrapping_sub(b'0')).filter(|digit| *digit < 10) {
+        while let Some(byte) = digits.get(length) {
+            let digit = byte.wrapping_sub(b'0');
+            if digit > 9 {
+                break;
+            }
             // (beyond 19 digits it is refused)
             number = number.wrapping_mul(10).wrapping_add(digit.into());
             length += 1;
+            if length == 3 {
+                // It may be a long one.
+                while let Some(eight) = digits::eight(&digits[length..]) {
+                    number = number.wrapping_mul(100_000_000).wrapping_add(eight);
+                    length += 8;
+                }
+            }
         }
         self.at += length;
         let is_right = matches!(length, 1..=19) && (length == 1 || digits[0] != b'0');
@@ -139,6 +153,23 @@ impl<'a> Reader<'a> {
 
     /// Bytes in hex that do not stand in place: 31 digits or more.
     fn long_bytes(&mut self) -> Option<Blob> {
+        let digits = &self.text[self.at..];
+        let mut room = [0; 8 * ROOM];
+        for (number, place) in room.as_chunks_mut().0.iter_mut().enumerate() {
+            let (bytes, count) = digits::decode_front(digits.get(16 * number..)?);
+            *place = bytes.to_le_bytes();
+            if count < 16 {
+                let count = 16 * number + count;
+                self.at += count + 1;
+                let is_right = digits.get(count) == Some(&b'"') && count % 2 == 0;
+                return is_right.then(|| room[..count / 2].into());
+            }
+        }
+        self.longer_bytes()
+    }
+
+    #[cold]
+    fn longer_bytes(&mut self) -> Option<Blob> {
         let digits = &self.text[self.at..];
         let digits = &digits[..digits::find_quote(digits)?];
         self.at += digits.len() + 1;

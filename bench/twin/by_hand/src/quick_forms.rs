@@ -82,18 +82,47 @@ fn how(from: &mut Reader) -> Option<Combine> {
     names.into_iter().find(|(name, _)| from.is_next(name)).map(|(_, how)| how)
 }
 
-/// Mutations, in room for their number and no more.
-fn mutations(from: &mut Reader) -> Option<Vec<Mutation>> {
+/// Reads mutations into the reader's room for them.
+fn read_mutations(from: &mut Reader) -> Option<()> {
     from.take(b'[')?;
-    let mut room = std::mem::take(&mut from.mutations);
+    from.mutations.clear();
     let mut has_more = from.has_any(b']');
     while has_more {
-        room.push(Mutation::quick(from)?);
+        let mutation = Mutation::quick(from)?;
+        from.mutations.push(mutation);
         has_more = from.has_more(b']')?;
     }
-    let found = room.drain(..).collect();
-    from.mutations = room;
-    Some(found)
+    Some(())
+}
+
+/// Mutations, in room for their number and no more.
+fn mutations(from: &mut Reader) -> Option<Vec<Mutation>> {
+    read_mutations(from)?;
+    Some(from.mutations.drain(..).collect())
+}
+
+/// An operation, of which the mutations of a batch stay in the reader's room.
+pub enum Next {
+    Apply { version: u64 },
+    Other(Operation),
+}
+
+impl Next {
+    pub fn quick(from: &mut Reader) -> Option<Self> {
+        from.take(b'{')?;
+        if !from.is_next(b"\"apply\":") {
+            return other(from).map(Next::Other);
+        }
+        from.take(b'{')?;
+        from.is_next(b"\"version\":").then_some(())?;
+        let version = Version::quick(from)?.0;
+        from.take(b',')?;
+        from.is_next(b"\"batch\":").then_some(())?;
+        read_mutations(from)?;
+        from.take(b'}')?;
+        from.take(b'}')?;
+        Some(Next::Apply { version })
+    }
 }
 
 impl Quick for Mutations {
@@ -133,21 +162,25 @@ impl Quick for Script {
 impl Quick for Operation {
     #[inline]
     fn quick(from: &mut Reader) -> Option<Self> {
-        from.take(b'{')?;
-        let operation = if from.is_next(b"\"apply\":") {
-            let (version, mutations): (Version, Mutations) = pair(from, b"\"version\":", b"\"batch\":")?;
-            Operation::Apply { version: version.0, batch: Batch::new(mutations.0) }
-        } else if from.is_next(b"\"undo\":") {
-            Operation::Undo { to: one::<Version>(from, b"\"to\":")?.0 }
-        } else if from.is_next(b"\"forget\":") {
-            Operation::Forget { through: one::<Version>(from, b"\"through\":")?.0 }
-        } else {
-            from.is_next(b"\"advance\":").then_some(())?;
-            Operation::Advance { version: one::<Version>(from, b"\"version\":")?.0 }
-        };
-        from.take(b'}')?;
-        Some(operation)
+        match Next::quick(from)? {
+            Next::Apply { version } => Some(Operation::Apply { version, batch: Batch::new(from.mutations.drain(..).collect()) }),
+            Next::Other(operation) => Some(operation),
+        }
     }
+}
+
+/// Behind its brace, an operation that is no batch.
+fn other(from: &mut Reader) -> Option<Operation> {
+    let operation = if from.is_next(b"\"undo\":") {
+        Operation::Undo { to: one::<Version>(from, b"\"to\":")?.0 }
+    } else if from.is_next(b"\"forget\":") {
+        Operation::Forget { through: one::<Version>(from, b"\"through\":")?.0 }
+    } else {
+        from.is_next(b"\"advance\":").then_some(())?;
+        Operation::Advance { version: one::<Version>(from, b"\"version\":")?.0 }
+    };
+    from.take(b'}')?;
+    Some(operation)
 }
 
 impl Quick for CellValue {
