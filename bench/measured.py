@@ -1,5 +1,5 @@
-"""Runs of a built fdbrec and of its twin that are measured, for bench/twins and bench/growth: the scripts that both read,
-seconds and memory, and instructions (valgrind)."""
+"""Runs of a built fdbrec and of its two twins that are measured, for bench/twins, bench/profile and bench/growth: the
+scripts that all read, seconds and memory, and instructions (valgrind)."""
 import argparse
 import fcntl
 import glob
@@ -14,8 +14,12 @@ import textwrap
 BENCH = os.path.dirname(os.path.realpath(__file__))
 TOP = os.path.dirname(BENCH)
 BUILT = os.path.join(TOP, "crates", "fdbrec", "out", "fdbrec")
-TWIN = os.path.join(BENCH, "twin", "target", "release", "twin")
-MEASURE = os.path.join(BENCH, "twin", "target", "release", "measure")
+# Both twins and the stopwatch are built by one `cargo build --release` in bench/twin.
+BUILDS = os.path.join(BENCH, "twin", "target", "release")
+MEASURE = os.path.join(BUILDS, "measure")
+TWIN = os.path.join(BUILDS, "twin")
+FDBREC, PLAIN, BY_HAND = "fdbrec", "plain twin", "twin by hand"
+TWINS = {PLAIN: TWIN, BY_HAND: os.path.join(BUILDS, "twin_by_hand")}
 PAGE = os.path.join(TOP, "docs", "PERFORMANCE.md")
 
 
@@ -32,16 +36,22 @@ def words(usage):
     parser.add_argument("--program", type=os.path.abspath, default=BUILT)
     parser.add_argument("--seed", type=int, default=1)
     parser.add_argument("--write", nargs="?", const=PAGE, metavar="PAGE")
+    parser.add_argument("--alone", action="store_true")
     return parser
 
 
+def programs_of(options):
+    """The programs that are compared, by name; --alone leaves the twins."""
+    return TWINS if options.alone else {FDBREC: options.program, **TWINS}
+
+
 def ready(options):
-    """Names all that is missing at once, or else builds the twin."""
+    """Names all that is missing at once, or else builds the twins."""
     crates = {"librust-serde-json-dev": ("serde_json", "serde", "itoa", "ryu"), "librust-hex-dev": ("hex",)}
     missing = [f"the command {name}" for name in ("cargo", "rustc", "valgrind") if not shutil.which(name)]
     missing += [f"the sources of {crate}: apt-get install {package}" for package, names in crates.items()
                 for crate in names if not glob.glob(f"/usr/share/cargo/registry/{crate}-[0-9]*")]
-    if not (os.path.isfile(options.program) and os.access(options.program, os.X_OK)):
+    if not options.alone and not (os.path.isfile(options.program) and os.access(options.program, os.X_OK)):
         missing.append(f"a program: '{options.program}' is none (./fdbrec builds one)")
     if options.write and not os.path.isfile(options.write):
         missing.append(f"the page '{options.write}'")
@@ -55,7 +65,7 @@ def ready(options):
 
 def make(maker, size, seed, path, program):
     """Writes a script; that of a cluster is what the program prints of its own run of so many turns, and that of a
-    world what the twin enters of its own simulation."""
+    world what the plain twin enters of its own simulation."""
     if maker == ["cluster"]:
         given = [program, "cluster", "--journal", "--turns", str(size), "--recoveries", "2", "--batches", str(size)]
         with open(path, "wb") as file:

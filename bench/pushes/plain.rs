@@ -3,6 +3,8 @@
 
 #[path = "../twin/src/batch.rs"]
 mod batch;
+#[path = "../twin/src/blob.rs"]
+mod blob;
 #[path = "../twin/src/log.rs"]
 mod log;
 mod messages;

@@ -4,6 +4,7 @@ use crate::batch::Batch;
 use crate::cell::Cell;
 use crate::folding::Folding;
 use crate::forms::{object, variants, Ballot, Count, Empty, Epoch, Stamp, Step, Version};
+use crate::leave;
 use crate::log::Log;
 use crate::messages::{Ask, CellValue, LogAsk, NodeId, PoppedForm, Tell};
 use crate::proxy::{Outcome, Proxy, Sequencer};
@@ -141,7 +142,7 @@ impl Last {
     }
 
     pub fn of_storage(it: &Storage) -> Self {
-        let rows = it.store.values().map(|(key, value)| (Bytes(key.to_vec()), Bytes(value.to_vec()))).collect();
+        let rows = it.store.values().map(|(key, value)| (Bytes(key.into()), Bytes(value.into()))).collect();
         let (epoch, version, floor) = (it.epoch(), it.store.applied(), it.store.floor());
         Last::Storage(StorageLast { epoch, floor, rows, version })
     }
@@ -224,10 +225,10 @@ pub fn audit(config: Config, mut journals: Vec<Journal>) -> Result<(), AuditFaul
         })?;
     }
     journals.sort_by_key(|journal| journal.node);
-    match journals.iter().find(|journal| !audit.ends_so(journal.node, &journal.last)) {
-        Some(journal) => Err(AuditFault::StateDiffers { node: journal.node }),
-        None => Ok(()),
-    }
+    let differs = journals.iter().map(|journal| (journal.node, &journal.last)).find(|(node, last)| !audit.ends_so(*node, last));
+    let found = differs.map_or(Ok(()), |(node, _)| Err(AuditFault::StateDiffers { node }));
+    leave((audit, journals));
+    found
 }
 
 impl Audit {

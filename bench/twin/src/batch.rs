@@ -1,5 +1,6 @@
 //! Mutations, batches and their limits, and what each shard has of a batch.
 
+use crate::blob::Blob;
 use std::cmp::Ordering;
 use std::hash::{Hash, Hasher};
 use std::sync::Arc;
@@ -11,22 +12,22 @@ const LONGEST_VALUE: usize = 100_000;
 #[derive(Clone, Debug, PartialEq, Eq)]
 pub enum Mutation {
     Set {
-        key: Vec<u8>,
-        value: Vec<u8>,
+        key: Blob,
+        value: Blob,
     },
     Clear {
-        begin: Vec<u8>,
-        end: Vec<u8>,
+        begin: Blob,
+        end: Blob,
     },
     Combine {
         how: Combine,
-        key: Vec<u8>,
-        param: Vec<u8>,
+        key: Blob,
+        param: Blob,
     },
     /// The key loses its value where it is this one.
     CompareAndClear {
-        key: Vec<u8>,
-        value: Vec<u8>,
+        key: Blob,
+        value: Blob,
     },
 }
 
@@ -67,11 +68,16 @@ impl BatchFault {
 
 impl Batch {
     pub fn new(mutations: Vec<Mutation>) -> Result<Self, BatchFault> {
+        Self::check(&mutations)?;
+        Ok(Batch(mutations.into_boxed_slice()))
+    }
+
+    /// Whether mutations are within the limits.
+    pub fn check(mutations: &[Mutation]) -> Result<(), BatchFault> {
         if mutations.len() > MOST_MUTATIONS {
             return Err(BatchFault::TooMany);
         }
-        mutations.iter().try_for_each(Mutation::check)?;
-        Ok(Batch(mutations.into_boxed_slice()))
+        mutations.iter().try_for_each(Mutation::check)
     }
 
     pub fn into_mutations(self) -> Box<[Mutation]> {
@@ -92,10 +98,10 @@ impl Hash for Batch {
 
 /// Where the shards begin, in rising order; the first one begins at the empty key.
 #[derive(Debug)]
-pub struct Shards(Vec<Vec<u8>>);
+pub struct Shards(Vec<Blob>);
 
 impl Shards {
-    pub fn new(begins: Vec<Vec<u8>>) -> Option<Self> {
+    pub fn new(begins: Vec<Blob>) -> Option<Self> {
         let are_few = (1..=32).contains(&begins.len());
         let are_keys = begins.iter().all(|begin| begin.len() <= LONGEST_KEY);
         let are_rising = begins.windows(2).all(|pair| pair[0] < pair[1]);
@@ -116,6 +122,9 @@ impl Shards {
         if self.0.len() == 1 && !batch.mutations().iter().any(Mutation::is_empty) {
             let body = (0, batch.clone());
             return if batch.mutations().is_empty() { Vec::new() } else { vec![body] };
+        }
+        if cfg!(feature = "by_hand") && !batch.mutations().iter().any(|it| matches!(it, Mutation::Clear { .. })) {
+            return self.bodies_of_keys(batch);
         }
         let mut bodies: Vec<Vec<Mutation>> = vec![Vec::new(); self.0.len()];
         for mutation in batch.mutations() {
@@ -141,7 +150,36 @@ impl Shards {
     }
 }
 
+impl Shards {
+    /// The same of a batch whose mutations have a key each: one look at each key, and room for what is there.
+    fn bodies_of_keys(&self, batch: &Arc<Batch>) -> Vec<(u8, Arc<Batch>)> {
+        let mut tags = [0; MOST_MUTATIONS];
+        let mut counts = [0; 32];
+        for (mutation, tag) in batch.mutations().iter().zip(&mut tags) {
+            let its = self.of(mutation.key());
+            *tag = its as u8;
+            counts[its] += 1;
+        }
+        let mut bodies = Vec::with_capacity(batch.mutations().len().min(self.0.len()));
+        for (tag, count) in (0..).zip(counts).filter(|(_, count)| *count > 0) {
+            let own = batch.mutations().iter().zip(&tags).filter(|(_, its)| **its == tag);
+            let mut body = Vec::with_capacity(count);
+            body.extend(own.map(|(mutation, _)| mutation.clone()));
+            bodies.push((tag, Arc::new(Batch(body.into_boxed_slice()))));
+        }
+        bodies
+    }
+}
+
 impl Mutation {
+    /// Its key; of a clear where it begins.
+    fn key(&self) -> &[u8] {
+        match self {
+            Mutation::Set { key, .. } | Mutation::Combine { key, .. } | Mutation::CompareAndClear { key, .. } => key,
+            Mutation::Clear { begin, .. } => begin,
+        }
+    }
+
     /// Whether it is a clear of no keys.
     fn is_empty(&self) -> bool {
         matches!(self, Mutation::Clear { begin, end } if begin == end)
@@ -177,7 +215,7 @@ impl Mutation {
 impl Combine {
     /// The new value, made in the parameter's own place. The old value counts as cut, or extended by
     /// zero bytes, to the parameter's length.
-    pub fn apply(self, old: Option<&[u8]>, mut param: Vec<u8>) -> Vec<u8> {
+    pub fn apply(self, old: Option<&[u8]>, mut param: Blob) -> Blob {
         match (self, old) {
             (Combine::And | Combine::Max | Combine::Min, None) => {}
             (Combine::Add, old) => add(&mut param, old.unwrap_or_default()),

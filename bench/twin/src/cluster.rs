@@ -2,6 +2,7 @@
 
 use crate::audit::{audit, Journal};
 use crate::batch::Shards;
+use crate::blob::Blob;
 use crate::journal::write_script;
 use crate::station::Directory;
 use crate::storage::Storage;
@@ -93,8 +94,8 @@ impl Options {
     }
 
     /// Where the shards begin: the first at the empty key, shard i at the byte 8 i.
-    fn begins(&self) -> Vec<Vec<u8>> {
-        (0..self.storages).map(|shard| if shard == 0 { Vec::new() } else { vec![8 * shard] }).collect()
+    fn begins(&self) -> Vec<Blob> {
+        (0..self.storages).map(|shard| if shard == 0 { Blob::default() } else { Blob::from(&[8 * shard][..]) }).collect()
     }
 
     pub fn config(&self) -> Config {

@@ -30,7 +30,7 @@ fn said(words: &str) -> Result<(u8, String), Fault> {
 /// The key and the value of a batch of one set.
 fn set_of(batch: &Batch) -> (Vec<u8>, u32) {
     match batch.mutations() {
-        [Mutation::Set { key, value }] => (key.clone(), u32::from_be_bytes(value[..].try_into().expect("four bytes"))),
+        [Mutation::Set { key, value }] => (key.to_vec(), u32::from_be_bytes(value[..].try_into().expect("four bytes"))),
         other => panic!("no single set: {other:?}"),
     }
 }
@@ -82,7 +82,7 @@ fn seen_in(journals: &[Journal]) -> Seen {
             }
             (NodeId::Storage(tag), Some(Last::Storage(last))) => {
                 let row = |(key, value): &(Bytes, Bytes)| {
-                    (key.0.clone(), u32::from_be_bytes(value.0[..].try_into().expect("four bytes")))
+                    (key.0.to_vec(), u32::from_be_bytes(value.0[..].try_into().expect("four bytes")))
                 };
                 seen.storages.insert(tag, (last.epoch, last.version, last.rows.iter().map(row).collect()));
             }

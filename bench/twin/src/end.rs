@@ -1,6 +1,7 @@
 //! `end`: what the replies of locked logs say of the end of their epoch.
 
 use crate::forms::{object, Byte, Version};
+use crate::said::say;
 use std::collections::BTreeMap;
 use std::io::{self, Write};
 
@@ -20,17 +21,17 @@ pub fn print(script: Script, options: Options, output: &mut impl Write) -> io::R
     for (index, durable, known) in script.replies {
         let reply = (durable.0, known.0);
         if index.0 >= options.logs {
-            writeln!(output, "refused Stranger")?;
+            say!(output, "refused Stranger\n")?;
         } else if *replies.entry(index.0).or_insert(reply) != reply {
-            writeln!(output, "refused Differs")?;
+            say!(output, "refused Differs\n")?;
         } else if replies.len() <= usize::from(options.logs - options.degree) {
-            writeln!(output, "none")?;
+            say!(output, "none\n")?;
         } else {
             let pev = replies.values().map(|(_, known)| *known).max().unwrap_or(0);
             let rv = replies.values().map(|(durable, _)| *durable).min().unwrap_or(0);
             match pev <= rv {
-                true => writeln!(output, "pev {pev} rv {rv}")?,
-                false => writeln!(output, "inconsistent")?,
+                true => say!(output, "pev ", pev, " rv ", rv, "\n")?,
+                false => say!(output, "inconsistent\n")?,
             }
         }
     }

@@ -15,7 +15,8 @@ fn said(words: &str, script: &[u8]) -> (u8, String) {
 
 #[test]
 fn each_example_prints_what_stands_beside_it() {
-    let folder = Path::new(env!("CARGO_MANIFEST_DIR")).join("../../examples");
+    let top = if cfg!(feature = "by_hand") { "../../.." } else { "../.." };
+    let folder = Path::new(env!("CARGO_MANIFEST_DIR")).join(top).join("examples");
     let beside = |script: &Path, end: &str| fs::read_to_string(script.with_extension(end));
     let mut tried = 0;
     for entry in fs::read_dir(folder).expect("the examples are there") {

@@ -47,10 +47,13 @@ pub struct Ballot(u64);
 impl<'de> Deserialize<'de> for Ballot {
     fn deserialize<D: Deserializer<'de>>(deserializer: D) -> Result<Self, D::Error> {
         let number = u64::deserialize(deserializer)?;
-        if number != 0 && !(256..1 << 48).contains(&number) {
-            return Err(D::Error::custom(format_args!("{number} is no ballot")));
-        }
-        Ok(Ballot(number))
+        Ballot::new(number).ok_or_else(|| D::Error::custom(format_args!("{number} is no ballot")))
+    }
+}
+
+impl Ballot {
+    pub fn new(number: u64) -> Option<Self> {
+        (number == 0 || (256..1 << 48).contains(&number)).then_some(Ballot(number))
     }
 }
 
@@ -116,6 +119,8 @@ macro_rules! object {
                 deserializer.deserialize_map(Object)
             }
         }
+
+        $crate::quick::quick_object! { $Name { $($field: $Form),* } { $($($option: $OptionForm),*)? } }
     };
 }
 
@@ -153,6 +158,8 @@ macro_rules! variants {
                 deserializer.deserialize_map(Variants)
             }
         }
+
+        $crate::quick::quick_variants! { $Name { $($name: $Form => $make),* } }
     };
 }
 

@@ -1,14 +1,25 @@
 //! `twin apply|end|simulate|audit < script` and `twin cluster`: what these commands of `fdbrec` do, as plain Rust
-//! without proofs, written from the rules in docs/.
+//! without proofs, written from the rules in docs/. With the feature `by_hand` this is `twin_by_hand`, in which modules of
+//! by_hand/ stand in place of plain ones; bench/README.md says why there are two.
 //!
 //! A text is read straight into typed operations; only one that this refuses is read again as a tree. Keys and values are
 //! decoded once and then moved, one look-up serves a write, and a clear takes a range out by one walk. Undo rows are in a
 //! double-ended queue by version.
 
+#![cfg_attr(not(feature = "by_hand"), forbid(unsafe_code))]
+
+#[cfg_attr(feature = "by_hand", path = "../by_hand/src/at_once.rs")]
+mod at_once;
 mod audit;
 mod batch;
+#[cfg_attr(feature = "by_hand", path = "../by_hand/src/blob.rs")]
+mod blob;
 mod cell;
 mod cluster;
+#[cfg(feature = "by_hand")]
+#[path = "../by_hand/src/digits.rs"]
+mod digits;
+#[cfg_attr(feature = "by_hand", path = "../by_hand/src/end.rs")]
 mod end;
 mod folding;
 mod forms;
@@ -17,7 +28,14 @@ mod lines;
 mod log;
 mod messages;
 mod proxy;
+#[cfg_attr(feature = "by_hand", path = "../by_hand/src/quick.rs")]
+mod quick;
+#[cfg(feature = "by_hand")]
+#[path = "../by_hand/src/quick_forms.rs"]
+mod quick_forms;
 mod recoverer;
+#[cfg_attr(feature = "by_hand", path = "../by_hand/src/said.rs")]
+mod said;
 mod script;
 mod simulate;
 mod state;
@@ -125,6 +143,14 @@ fn number<T: FromStr>(word: &str) -> Result<T, Fault> {
     word.parse().map_err(|_| Fault::BadWords)
 }
 
+/// Leaves a value that is used no more to the end of the process, which gives its memory back at once. The plain twin
+/// lets it go part by part.
+fn leave<T>(it: T) {
+    if cfg!(feature = "by_hand") {
+        std::mem::forget(it);
+    }
+}
+
 /// Reads the whole script before the first line is written, as a bad one prints no line. A cluster reads nothing.
 fn run(words: &[OsString], mut input: impl Read, output: impl Write) -> Result<u8, Fault> {
     let command = command_of(words)?;
@@ -135,21 +161,27 @@ fn run(words: &[OsString], mut input: impl Read, output: impl Write) -> Result<u
     let mut output = BufWriter::with_capacity(64 * 1024, output);
     let status = match command {
         Command::Cluster(options) => Ok(cluster::print(&options, &mut output)?),
-        Command::Apply => {
-            let operations = script::read(&text).ok_or(Fault::BadScript)?;
-            drop(text);
-            lines::print(operations, &mut output).map(|()| 0)
-        }
+        Command::Apply => match at_once::apply(&text, &mut output) {
+            Some(done) => done.map(|()| 0),
+            None => {
+                let operations = script::read(&text).ok_or(Fault::BadScript)?;
+                drop(text);
+                lines::print(operations, &mut output).map(|()| 0)
+            }
+        },
         Command::End(options) => {
             let script = script::read_form(&text).ok_or(Fault::BadScript)?;
             end::print(script, options, &mut output).map(|()| 0)
         }
-        Command::Simulate => {
-            let simulate::Script { config, steps } = script::read_form(&text).ok_or(Fault::BadScript)?;
-            drop(text);
-            let config = config.config().ok_or(Fault::BadScript)?;
-            simulate::print(config, steps, &mut output).map(|()| 0)
-        }
+        Command::Simulate => match at_once::simulate(&text, &mut output) {
+            Some(done) => done.map(|()| 0),
+            None => {
+                let simulate::Script { config, steps } = script::read_form(&text).ok_or(Fault::BadScript)?;
+                drop(text);
+                let config = config.config().ok_or(Fault::BadScript)?;
+                simulate::print(config, steps, &mut output).map(|()| 0)
+            }
+        },
         Command::Journal => {
             let script: serde_json::Value = script::read_form(&text).ok_or(Fault::BadScript)?;
             let simulate::Script { config, steps } = script::read_form(&text).ok_or(Fault::BadScript)?;

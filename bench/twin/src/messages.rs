@@ -1,6 +1,7 @@
 //! What nodes are called, what they ask and what they tell.
 
 use crate::batch::Batch;
+use crate::blob::Blob;
 use crate::forms::{object, variants};
 use crate::forms::{Ballot, CellPlace, Empty, Epoch, Most, Place, Request, Step, Tag, Version};
 use crate::script::Bytes;
@@ -12,7 +13,8 @@ const LONGEST_CELL_VALUE: usize = 4_096;
 const MOST_RECORDS: usize = 100;
 
 /// A node. The order is that of the lines of an audit.
-#[derive(Clone, Copy, Debug, PartialEq, Eq, Hash, PartialOrd, Ord)]
+#[derive(Clone, Copy, Debug, PartialEq, Eq, PartialOrd, Ord)]
+#[cfg_attr(not(feature = "by_hand"), derive(Hash))]
 pub enum NodeId {
     Cell(u8),
     Log(LogId),
@@ -20,6 +22,24 @@ pub enum NodeId {
     Proxy(u64, u8),
     Recoverer(u64),
     Storage(u8),
+}
+
+/// A node's name is one number, which is hashed at once.
+#[cfg(feature = "by_hand")]
+impl Hash for NodeId {
+    #[inline]
+    fn hash<H: Hasher>(&self, hasher: &mut H) {
+        let (kind, long, short) = match *self {
+            NodeId::Cell(index) => (0, 0, index),
+            NodeId::Log(id) => (1, id.epoch, id.index),
+            NodeId::Sequencer(epoch) => (2, epoch, 0),
+            NodeId::Proxy(epoch, number) => (3, epoch, number),
+            NodeId::Recoverer(ballot) => (4, ballot, 0),
+            NodeId::Storage(tag) => (5, 0, tag),
+        };
+        // (epochs and ballots are below 2^48)
+        hasher.write_u64(long << 16 | u64::from(short) << 8 | kind);
+    }
 }
 
 object! {
@@ -95,10 +115,13 @@ pub struct CellValue(Arc<[u8]>);
 impl<'de> serde::Deserialize<'de> for CellValue {
     fn deserialize<D: serde::Deserializer<'de>>(deserializer: D) -> Result<Self, D::Error> {
         let Bytes(value) = Bytes::deserialize(deserializer)?;
-        if value.len() > LONGEST_CELL_VALUE {
-            return Err(serde::de::Error::custom("a value that is too long for a cell"));
-        }
-        Ok(CellValue(value.into()))
+        CellValue::new(value).ok_or_else(|| serde::de::Error::custom("a value that is too long for a cell"))
+    }
+}
+
+impl CellValue {
+    pub fn new(value: Blob) -> Option<Self> {
+        (value.len() <= LONGEST_CELL_VALUE).then(|| CellValue(value.as_slice().into()))
     }
 }
 
@@ -318,12 +341,16 @@ pub struct PoppedForm(Vec<(u8, u64)>);
 
 impl<'de> serde::Deserialize<'de> for PoppedForm {
     fn deserialize<D: serde::Deserializer<'de>>(deserializer: D) -> Result<Self, D::Error> {
-        let pairs = Vec::<(Tag, Version)>::deserialize(deserializer)?;
+        let popped = PoppedForm::new(Vec::deserialize(deserializer)?);
+        popped.ok_or_else(|| serde::de::Error::custom("popped tags that do not rise, or none"))
+    }
+}
+
+impl PoppedForm {
+    pub fn new(pairs: Vec<(Tag, Version)>) -> Option<Self> {
         let popped: Vec<(u8, u64)> = pairs.into_iter().map(|(tag, version)| (tag.0, version.0)).collect();
-        if popped.is_empty() || !popped.is_sorted_by(|one, next| one.0 < next.0) {
-            return Err(serde::de::Error::custom("popped tags that do not rise, or none"));
-        }
-        Ok(PoppedForm(popped))
+        let is_right = !popped.is_empty() && popped.is_sorted_by(|one, next| one.0 < next.0);
+        is_right.then_some(PoppedForm(popped))
     }
 }
 

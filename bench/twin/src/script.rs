@@ -1,6 +1,8 @@
 //! Reads a script: `{"ops":[..]}`.
 
 use crate::batch::{Batch, BatchFault, Combine, Mutation};
+use crate::blob::Blob;
+use crate::quick::{self, Quick};
 use serde::de::{self, Deserialize, DeserializeOwned, DeserializeSeed, Deserializer, IgnoredAny, MapAccess, Visitor};
 use std::fmt;
 use std::marker::PhantomData;
@@ -31,7 +33,10 @@ pub fn read(text: &[u8]) -> Option<Vec<Operation>> {
 }
 
 /// What a script of this form says, or none where it is not one.
-pub fn read_form<T: DeserializeOwned>(text: &[u8]) -> Option<T> {
+pub fn read_form<T: DeserializeOwned + Quick>(text: &[u8]) -> Option<T> {
+    if let Some(form) = quick::read(text) {
+        return Some(form);
+    }
     // (its encoding is looked at once, and not again in each of its strings)
     let text = std::str::from_utf8(text).ok()?;
     let form = serde_json::from_str(text).or_else(|_| {
@@ -41,7 +46,7 @@ pub fn read_form<T: DeserializeOwned>(text: &[u8]) -> Option<T> {
     form.ok()
 }
 
-struct Script(Vec<Operation>);
+pub(crate) struct Script(pub Vec<Operation>);
 
 impl<'de> Deserialize<'de> for Script {
     fn deserialize<D: Deserializer<'de>>(deserializer: D) -> Result<Self, D::Error> {
@@ -182,7 +187,7 @@ impl<'de> Deserialize<'de> for Version {
 }
 
 /// Bytes as lower-case hex.
-pub(crate) struct Bytes(pub Vec<u8>);
+pub(crate) struct Bytes(pub Blob);
 
 impl<'de> Deserialize<'de> for Bytes {
     fn deserialize<D: Deserializer<'de>>(deserializer: D) -> Result<Self, D::Error> {
@@ -194,17 +199,17 @@ impl<'de> Deserialize<'de> for Bytes {
 struct BytesVisitor;
 
 impl Visitor<'_> for BytesVisitor {
-    type Value = Vec<u8>;
+    type Value = Blob;
 
     fn expecting(&self, f: &mut fmt::Formatter) -> fmt::Result {
         f.write_str("lower-case hex")
     }
 
-    fn visit_str<E: de::Error>(self, text: &str) -> Result<Vec<u8>, E> {
+    fn visit_str<E: de::Error>(self, text: &str) -> Result<Blob, E> {
         self.visit_bytes(text.as_bytes())
     }
 
-    fn visit_bytes<E: de::Error>(self, text: &[u8]) -> Result<Vec<u8>, E> {
+    fn visit_bytes<E: de::Error>(self, text: &[u8]) -> Result<Blob, E> {
         if text.len() % 2 != 0 {
             return Err(E::custom("half a byte"));
         }
@@ -214,11 +219,11 @@ impl Visitor<'_> for BytesVisitor {
             wrong |= high | low;
             high << 4 | low & 0x0f
         });
-        let bytes = bytes.collect();
+        let bytes: Vec<u8> = bytes.collect();
         if wrong > 0x0f {
             return Err(E::custom("no lower-case hex"));
         }
-        Ok(bytes)
+        Ok(bytes.into())
     }
 }
 

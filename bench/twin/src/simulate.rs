@@ -3,9 +3,10 @@
 use crate::batch::{Batch, BatchFault};
 use crate::journal::{write_script, Journals};
 use crate::forms::{object, variants, Ballot, CellPlace, Count, Epoch, Place, Step, Tag, Version};
-use crate::lines::{push_row, push_text};
+use crate::leave;
 use crate::messages::{Ask, CellAsk, LogAsk, LogId, LogTell, NodeId, Pop, Tell};
 use crate::proxy::Outcome;
+use crate::said::{push_row, push_text, say};
 use crate::script::{Bytes, Mutations};
 use crate::state::Shape;
 use crate::world::{ConfigForm, Heard, NotEnabled, World};
@@ -75,16 +76,16 @@ variants! {
 }
 
 /// A world, and what is entered of it where journals are wanted.
-struct Play {
+pub struct Play {
     world: World,
     journals: Option<Journals>,
 }
 
 /// Prints a line for each step, and then what each storage server has.
 pub fn print(config: crate::world::Config, steps: Vec<StepForm>, output: &mut impl Write) -> io::Result<()> {
-    let mut play = Play { world: World::start(config), journals: None };
-    take_steps(&mut play, steps, output)?;
-    print_storages(&play.world, output)
+    let mut play = Play::start(config);
+    steps.into_iter().try_for_each(|step| play.take_step(step, output))?;
+    play.print_storages(output)
 }
 
 /// Prints the journals of these steps as a script of `audit`. The config is given in its own form too.
@@ -95,84 +96,9 @@ pub fn print_journals(
     output: &mut impl Write,
 ) -> io::Result<()> {
     let mut play = Play { world: World::start(config), journals: Some(Journals::default()) };
-    take_steps(&mut play, steps, &mut io::sink())?;
+    steps.into_iter().try_for_each(|step| play.take_step(step, &mut io::sink()))?;
     let journals = play.journals.take().unwrap_or_default();
     write_script(&form, &journals.close(&play.world), output)
-}
-
-fn take_steps(play: &mut Play, steps: Vec<StepForm>, output: &mut impl Write) -> io::Result<()> {
-    for step in steps {
-        match step {
-            StepForm::Commit { epoch, proxy, step, batch, logs } => {
-                write!(output, "commit {epoch} {proxy} ")?;
-                match play.commit((epoch, proxy), step, batch, &logs) {
-                    Ok(Some((version, outcome))) => writeln!(output, "{version} {outcome}")?,
-                    Ok(None) => writeln!(output, "ended")?,
-                    Err(name) => writeln!(output, "refused {name}")?,
-                }
-            }
-            StepForm::Push(PushForm { epoch, proxy, logs }) => {
-                write!(output, "push {epoch} {proxy} ")?;
-                match play.world.proxy(epoch, proxy).and_then(|proxy| proxy.open_version()) {
-                    Some(version) => writeln!(output, "{version} {}", play.push((epoch, proxy), &logs))?,
-                    None => writeln!(output, "refused NotOpen")?,
-                }
-            }
-            StepForm::Pull(StorageForm { storage, epoch, log }) => {
-                let ask = play.world.storage(storage).map(|storage| LogAsk::Peek(storage.peek_of(epoch)));
-                write_storage("pull", storage, play.ask_log(storage, LogId { epoch, index: log }, ask), output)?;
-            }
-            StepForm::Mark(StorageForm { storage, epoch, log }) => {
-                let ask = Some(LogAsk::MarkAsked { epoch });
-                write_storage("mark", storage, play.ask_log(storage, LogId { epoch, index: log }, ask), output)?;
-            }
-            StepForm::Pop(StorageForm { storage, epoch, log }) => match play.pop(storage, LogId { epoch, index: log }) {
-                Ok(through) => writeln!(output, "pop {storage} {epoch} {through}")?,
-                Err(fault) => writeln!(output, "pop {storage} refused {fault}")?,
-            },
-            StepForm::Recover(step, shape) => match play.recover(&step, shape) {
-                Ok(()) => {
-                    let phase = play.world.recoverer(step.ballot).expect("it has begun").phase;
-                    writeln!(output, "recover {} {phase}", step.ballot)?;
-                }
-                Err(name) => writeln!(output, "recover {} refused {}", step.ballot, name.name())?,
-            },
-            StepForm::Lose(log) => match play.lose(log) {
-                Ok(()) => writeln!(output, "lose {} {}", log.epoch, log.index)?,
-                Err(name) => writeln!(output, "lose refused {}", name.name())?,
-            },
-            StepForm::Read(ReadForm { storage, key, version }) => {
-                write!(output, "read {storage} {version} ")?;
-                match play.world.read(storage, &key.0, version) {
-                    Ok(Some(value)) => {
-                        let mut line = Vec::new();
-                        push_text(&mut line, value);
-                        line.push(b'\n');
-                        output.write_all(&line)?;
-                    }
-                    Ok(None) => writeln!(output, "none")?,
-                    Err(name) => writeln!(output, "refused {name}")?,
-                }
-            }
-        }
-    }
-    Ok(())
-}
-
-fn print_storages(world: &World, output: &mut impl Write) -> io::Result<()> {
-    let mut line = Vec::new();
-    for storage in world.storages() {
-        let store = &storage.store;
-        let rows = store.values().count();
-        let (epoch, version, floor) = (storage.epoch(), store.applied(), store.floor());
-        writeln!(output, "storage {} {epoch} {version} floor {floor} rows {rows}", storage.tag)?;
-        for (key, value) in store.values() {
-            line.clear();
-            push_row(&mut line, key, value);
-            output.write_all(&line)?;
-        }
-    }
-    Ok(())
 }
 
 fn write_storage(
@@ -182,12 +108,95 @@ fn write_storage(
     output: &mut impl Write,
 ) -> io::Result<()> {
     match stands {
-        Ok((epoch, version)) => writeln!(output, "{name} {tag} {epoch} {version}"),
-        Err(fault) => writeln!(output, "{name} {tag} refused {fault}"),
+        Ok((epoch, version)) => say!(output, name, " ", tag, " ", epoch, " ", version, "\n"),
+        Err(fault) => say!(output, name, " ", tag, " refused ", fault, "\n"),
     }
 }
 
 impl Play {
+    pub fn start(config: crate::world::Config) -> Self {
+        Play { world: World::start(config), journals: None }
+    }
+
+    /// Takes a step and prints its line.
+    pub fn take_step(&mut self, step: StepForm, output: &mut impl Write) -> io::Result<()> {
+        match step {
+            StepForm::Commit { epoch, proxy, step, batch, logs } => {
+                say!(output, "commit ", epoch, " ", proxy, " ")?;
+                match self.commit((epoch, proxy), step, batch, &logs) {
+                    Ok(Some((version, outcome))) => say!(output, version, " ", outcome, "\n")?,
+                    Ok(None) => say!(output, "ended\n")?,
+                    Err(name) => say!(output, "refused ", name, "\n")?,
+                }
+            }
+            StepForm::Push(PushForm { epoch, proxy, logs }) => {
+                say!(output, "push ", epoch, " ", proxy, " ")?;
+                match self.world.proxy(epoch, proxy).and_then(|proxy| proxy.open_version()) {
+                    Some(version) => {
+                        let outcome = self.push((epoch, proxy), &logs);
+                        say!(output, version, " ", outcome, "\n")?
+                    }
+                    None => say!(output, "refused NotOpen\n")?,
+                }
+            }
+            StepForm::Pull(StorageForm { storage, epoch, log }) => {
+                let ask = self.world.storage(storage).map(|storage| LogAsk::Peek(storage.peek_of(epoch)));
+                write_storage("pull", storage, self.ask_log(storage, LogId { epoch, index: log }, ask), output)?;
+            }
+            StepForm::Mark(StorageForm { storage, epoch, log }) => {
+                let ask = Some(LogAsk::MarkAsked { epoch });
+                write_storage("mark", storage, self.ask_log(storage, LogId { epoch, index: log }, ask), output)?;
+            }
+            StepForm::Pop(StorageForm { storage, epoch, log }) => match self.pop(storage, LogId { epoch, index: log }) {
+                Ok(through) => say!(output, "pop ", storage, " ", epoch, " ", through, "\n")?,
+                Err(fault) => say!(output, "pop ", storage, " refused ", fault, "\n")?,
+            },
+            StepForm::Recover(step, shape) => match self.recover(&step, shape) {
+                Ok(()) => {
+                    let phase = self.world.recoverer(step.ballot).expect("it has begun").phase;
+                    say!(output, "recover ", step.ballot, " ", phase, "\n")?;
+                }
+                Err(name) => say!(output, "recover ", step.ballot, " refused ", name.name(), "\n")?,
+            },
+            StepForm::Lose(log) => match self.lose(log) {
+                Ok(()) => say!(output, "lose ", log.epoch, " ", log.index, "\n")?,
+                Err(name) => say!(output, "lose refused ", name.name(), "\n")?,
+            },
+            StepForm::Read(ReadForm { storage, key, version }) => {
+                say!(output, "read ", storage, " ", version, " ")?;
+                match self.world.read(storage, &key.0, version) {
+                    Ok(Some(value)) => {
+                        let mut line = Vec::new();
+                        push_text(&mut line, value);
+                        line.push(b'\n');
+                        output.write_all(&line)?;
+                    }
+                    Ok(None) => say!(output, "none\n")?,
+                    Err(name) => say!(output, "refused ", name, "\n")?,
+                }
+            }
+        }
+        Ok(())
+    }
+
+    /// Prints what each storage server has.
+    pub fn print_storages(self, output: &mut impl Write) -> io::Result<()> {
+        let mut line = Vec::new();
+        for storage in self.world.storages() {
+            let store = &storage.store;
+            let rows = store.values().count();
+            let (epoch, version, floor) = (storage.epoch(), store.applied(), store.floor());
+            say!(output, "storage ", storage.tag, " ", epoch, " ", version, " floor ", floor, " rows ", rows, "\n")?;
+            for (key, value) in store.values() {
+                line.clear();
+                push_row(&mut line, key, value);
+                output.write_all(&line)?;
+            }
+        }
+        leave(self);
+        Ok(())
+    }
+
     /// An ask comes to a node, which tells.
     fn deliver(&mut self, by: NodeId, to: NodeId, ask: &Ask) -> Result<Tell, NotEnabled> {
         let tell = self.world.deliver(to, ask)?;

@@ -132,8 +132,11 @@ impl Storage {
         let last = taken.unwrap_or(u64::MAX);
         for record in &peeked.records {
             if is_new(record.version) && record.version <= last {
-                let batch = (*record.batch).clone();
-                self.store.apply(record.version, batch).expect("records rise above the version applied");
+                let applied = match cfg!(feature = "by_hand") {
+                    true => self.store.apply_all(record.version, record.batch.mutations().iter().cloned()),
+                    false => self.store.apply(record.version, (*record.batch).clone()),
+                };
+                applied.expect("records rise above the version applied");
             }
         }
         if upto > self.store.applied() && upto <= last {

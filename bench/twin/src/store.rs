@@ -1,12 +1,13 @@
 //! A store with undo rows.
 
 use crate::batch::{Batch, Mutation};
+use crate::blob::Blob;
 use std::collections::btree_map::{BTreeMap, Entry};
 use std::collections::VecDeque;
 use std::mem;
 
 /// A key and the value that it had before, if any.
-type Row = (Vec<u8>, Option<Vec<u8>>);
+type Row = (Blob, Option<Blob>);
 
 /// The undo rows of one version; never none.
 struct Undo {
@@ -17,11 +18,14 @@ struct Undo {
 /// Keys with their values, and for each version above the floor what its batch changed.
 #[derive(Default)]
 pub struct Store {
-    values: BTreeMap<Vec<u8>, Vec<u8>>,
+    values: BTreeMap<Blob, Blob>,
     undo: VecDeque<Undo>,
     undo_rows: usize,
     applied: u64,
     floor: u64,
+    /// Room for the changes of a batch.
+    #[cfg(feature = "by_hand")]
+    room: Vec<Row>,
 }
 
 #[derive(Clone, Copy, Debug, PartialEq)]
@@ -70,17 +74,25 @@ impl Store {
             return Err(StoreFault::AboveApplied);
         }
         let later = self.undo.iter().skip_while(|undo| undo.version <= version);
-        let found = later.flat_map(|undo| undo.rows.iter()).find(|row| row.0 == key);
+        let found = later.flat_map(|undo| undo.rows.iter()).find(|row| row.0.as_slice() == key);
         Ok(match found {
             Some((_, before)) => before.as_deref(),
-            None => self.values.get(key).map(Vec::as_slice),
+            None => self.values.get(key).map(Blob::as_slice),
         })
     }
 
     pub fn apply(&mut self, version: u64, batch: Batch) -> Result<(), StoreFault> {
+        self.apply_all(version, IntoIterator::into_iter(batch.into_mutations()))
+    }
+
+    /// Applies mutations that are within the limits of a batch.
+    pub fn apply_all(
+        &mut self,
+        version: u64,
+        mutations: impl ExactSizeIterator<Item = Mutation>,
+    ) -> Result<(), StoreFault> {
         self.advance(version)?;
-        let mutations = batch.into_mutations();
-        let mut changes = Vec::with_capacity(mutations.len());
+        let mut changes = self.room_for(mutations.len());
         for mutation in mutations {
             match mutation {
                 Mutation::Set { key, value } => self.write(key, &mut changes, |_| value),
@@ -110,9 +122,9 @@ impl Store {
     /// Writes a key, and notes the value before where that differs.
     fn write(
         &mut self,
-        key: Vec<u8>,
+        key: Blob,
         changes: &mut Vec<Row>,
-        new: impl FnOnce(Option<&[u8]>) -> Vec<u8>,
+        new: impl FnOnce(Option<&[u8]>) -> Blob,
     ) {
         match self.values.entry(key) {
             Entry::Occupied(mut entry) => {
@@ -129,8 +141,39 @@ impl Store {
         }
     }
 
+    #[cfg(not(feature = "by_hand"))]
+    fn room_for(&self, changes: usize) -> Vec<Row> {
+        Vec::with_capacity(changes)
+    }
+
+    /// The room that the batch before left.
+    #[cfg(feature = "by_hand")]
+    fn room_for(&mut self, _: usize) -> Vec<Row> {
+        mem::take(&mut self.room)
+    }
+
+    /// The same with one allocation, and most often without a look at the store.
+    #[cfg(feature = "by_hand")]
+    fn rows_of(&mut self, mut changes: Vec<Row>) -> Box<[Row]> {
+        if changes.len() > 1 {
+            changes.sort_by(|one, other| one.0.cmp(&other.0));
+            if changes.windows(2).any(|pair| pair[0].0 == pair[1].0) {
+                let first_of_each = changes.chunk_by_mut(|one, next| one.0 == next.0);
+                let is_row = |each: &&mut [Row]| each.len() == 1 || self.values.get(&each[0].0) != each[0].1.as_ref();
+                let rows = first_of_each.filter(is_row).map(|each| mem::take(&mut each[0])).collect();
+                changes.clear();
+                self.room = changes;
+                return rows;
+            }
+        }
+        let rows = changes.drain(..).collect();
+        self.room = changes;
+        rows
+    }
+
     /// The undo rows of a batch, from its single changes in their order. A key that was changed once
     /// has another value now; one that was changed again may be back at its first.
+    #[cfg(not(feature = "by_hand"))]
     fn rows_of(&self, mut changes: Vec<Row>) -> Box<[Row]> {
         if changes.len() < 2 {
             return changes.into_boxed_slice();

@@ -2,6 +2,7 @@
 
 use crate::audit::{Act, HeardForm, Journal, Last, Submitted};
 use crate::batch::{Batch, Mutation};
+use crate::blob::Blob;
 use crate::messages::{Ask, LogAsk, LogId, LogRefusal, LogTell, NodeId, Pop, Tell};
 use crate::proxy::{Outcome, Proxy};
 use crate::recoverer::{Phase, Recoverer};
@@ -65,7 +66,7 @@ impl Workload {
             return None;
         }
         let shard = (self.next % u32::from(self.shards)) as u8;
-        let set = Mutation::Set { key: vec![8 * shard, self.number], value: self.next.to_be_bytes().to_vec() };
+        let set = Mutation::Set { key: Blob::from(&[8 * shard, self.number][..]), value: Blob::from(&self.next.to_be_bytes()[..]) };
         self.next += 1;
         Some(Arc::new(Batch::new(vec![set]).expect("one short set is within the limits")))
     }

@@ -1,0 +1,4 @@
+//! Keys, values and parameters.
+
+/// Bytes that are owned.
+pub type Blob = Vec<u8>;
