@@ -217,6 +217,22 @@ def _done(status: int) -> None:
         raise fault
 
 
+# The numbers for which the library has 8 bits, and not 64: the limit of each is far below 2^8.
+_SMALL = {"index", "m", "k", "tag", "most", "number", "coordinators"}
+
+
+def _within(**numbers: int) -> list[int]:
+    """These numbers. ctypes would cut one that is below 0, or has more bits than the library has for it, and the
+    library would take what is left. The library itself answers for all others whether they are within their limits."""
+    for name, number in numbers.items():
+        bits = 8 if name in _SMALL else 64
+        if not 0 <= number < 1 << bits:
+            fault = OutOfLimits(f"{name} is {number}: it has to be at least 0 and below 2^{bits}")
+            fault.status = Status.LIMIT
+            raise fault
+    return list(numbers.values())
+
+
 def _compact(value: Json) -> bytes:
     """A line of the library."""
     return json.dumps(value, separators=(",", ":")).encode()
@@ -443,31 +459,32 @@ class Cell(Asked):
         """Reads the cell, which then takes nothing below the ballot; `Refused` if it promised a greater one."""
         number = ctypes.c_uint64()
         out = ctypes.byref(number)
-        value = self._turn("fdbrec_cell_read", ballot, out, again="fdbrec_cell_answer", given=(out,))
+        value = self._turn("fdbrec_cell_read", *_within(ballot=ballot), out, again="fdbrec_cell_answer", given=(out,))
         return Promise(number.value, value)
 
     def write(self, ballot: int, value: bytes) -> None:
         """Writes under a ballot; `Refused` if it promised a greater one, `TwoValues` if it holds another value."""
-        self._call("fdbrec_cell_write", ballot, value, len(value), ctypes.byref(ctypes.c_uint64()))
+        number = ctypes.byref(ctypes.c_uint64())
+        self._call("fdbrec_cell_write", *_within(ballot=ballot), value, len(value), number)
 
 
 class Log(Asked):
     """Log `index` of a generation of `m` logs, on `k` of which each tag stands. It was never asked."""
 
     def __init__(self, epoch: int, index: int, m: int, k: int) -> None:
-        super().__init__("fdbrec_log_new", epoch, index, m, k)
+        super().__init__("fdbrec_log_new", *_within(epoch=epoch, index=index, m=m, k=k))
 
     def push(self, epoch: int, prev: int, version: int, known: int, tag: int, batch: Batch) -> int:
         """Pushes a version with the batch of one tag, and gives the version that the log holds; or it is `Refused`."""
         held, spelled = ctypes.c_uint64(), bytes(batch)
-        numbers = _PushNumbers(epoch=epoch, prev=prev, version=version, known=known, tag=tag)
+        numbers = _PushNumbers(*_within(epoch=epoch, prev=prev, version=version, known=known, tag=tag))
         self._call("fdbrec_log_push", numbers, spelled, len(spelled), ctypes.byref(held))
         return held.value
 
     def peek(self, epoch: int, tag: int, after: int, most: int) -> Peeked:
         """Gives the records of a tag above a version, at most so many; or it is `Refused`."""
         outs = ctypes.c_uint64(), ctypes.c_uint64()
-        numbers = _PeekNumbers(epoch=epoch, after=after, tag=tag, most=most)
+        numbers = _PeekNumbers(*_within(epoch=epoch, after=after, tag=tag, most=most))
         data = self._turn("fdbrec_log_peek", numbers, again="fdbrec_log_answer", outs=outs)
         return Peeked(list(_records(data)), *(it.value for it in outs))
 
@@ -487,7 +504,7 @@ class Sequencer(Asked):
     """The sequencer of an epoch, whose first version follows `last`."""
 
     def __init__(self, epoch: int, last: int) -> None:
-        super().__init__("fdbrec_sequencer_new", epoch, last)
+        super().__init__("fdbrec_sequencer_new", *_within(epoch=epoch, last=last))
 
 
 class Proxy(Hears):
@@ -496,14 +513,14 @@ class Proxy(Hears):
 
     def __init__(self, epoch: int, number: int, m: int, k: int, known: int, shards: Sequence[bytes]) -> None:
         begins = _begins(shards)
-        numbers = _ProxyNumbers(epoch=epoch, known=known, number=number, m=m, k=k)
+        numbers = _ProxyNumbers(*_within(epoch=epoch, known=known, number=number, m=m, k=k))
         super().__init__("fdbrec_proxy_new", numbers, begins, len(begins))
 
     def submit(self, step: int, batch: Batch) -> Heard:
         """Takes a batch, whose version is to be `step` above the last one given; `Refused` if one is under way, or the
         proxy ended."""
         spelled = bytes(batch)
-        return _heard(json.loads(self._turn("fdbrec_submit", step, spelled, len(spelled))))
+        return _heard(json.loads(self._turn("fdbrec_submit", *_within(step=step), spelled, len(spelled))))
 
 
 class Recoverer(Hears):
@@ -514,8 +531,9 @@ class Recoverer(Hears):
         self, ballot: int, coordinators: int, shards: Sequence[bytes], shape: tuple[int, int] | None = None
     ) -> None:
         begins = _begins(shards)
+        first = _within(ballot=ballot, coordinators=coordinators)
         m, k = shape or (0, 0)
-        super().__init__("fdbrec_recoverer_new", ballot, coordinators, begins, len(begins), m, k)
+        super().__init__("fdbrec_recoverer_new", *first, begins, len(begins), *_within(m=m, k=k))
 
 
 class Storage(Hears):
@@ -524,13 +542,13 @@ class Storage(Hears):
 
     def __init__(self, tag: int, state: Json) -> None:
         line = _compact(state)
-        super().__init__("fdbrec_storage_new", tag, line, len(line))
+        super().__init__("fdbrec_storage_new", *_within(tag=tag), line, len(line))
 
     def read(self, shard: tuple[bytes, bytes | None], key: bytes, version: int) -> bytes | None:
         """The value that a key had at a version, if it had one; or `NotMine`, `TooOld` or `FutureVersion`. `shard` is
         that of the server's tag: the key where it begins, and the one where the next does, if there is a next one."""
         begin, end = shard[0], shard[1] or b""
-        its = _KeyAt(begin, len(begin), end, len(end), key, len(key), version)
+        its = _KeyAt(begin, len(begin), end, len(end), key, len(key), *_within(version=version))
         return self._read("fdbrec_storage_read", its, none=Status.NONE)
 
 
@@ -543,15 +561,15 @@ class Store(Machine):
     def apply(self, version: int, batch: Batch) -> None:
         """Applies a batch at a version; `Refused` if it is not after the one applied."""
         spelled = bytes(batch)
-        self._call("fdbrec_store_apply", version, spelled, len(spelled))
+        self._call("fdbrec_store_apply", *_within(version=version), spelled, len(spelled))
 
     def undo_to(self, version: int) -> None:
         """Undoes all versions above one; `Refused` if it is below the floor."""
-        self._call("fdbrec_store_undo", version)
+        self._call("fdbrec_store_undo", *_within(version=version))
 
     def forget_through(self, version: int) -> None:
         """Forgets how to undo below a version; `Refused` if it is above the one applied."""
-        self._call("fdbrec_store_forget", version)
+        self._call("fdbrec_store_forget", *_within(version=version))
 
     def get(self, key: bytes) -> bytes | None:
         """The value of a key, if it has one."""

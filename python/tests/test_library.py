@@ -84,6 +84,48 @@ class Calls(unittest.TestCase):
                     call()
                 self.assertEqual(raised.exception.status, status)
 
+    def test_no_number_is_cut(self):
+        shards, none = [b""], Batch()
+        with (
+            library.Cell() as cell, begun() as log, library.Store() as store, library.Storage(0, STATE) as storage,
+            library.Proxy(257, 0, 1, 1, 0, shards) as proxy
+        ):
+            calls = (
+                ("Cell.read", cell.read, {"ballot": 513}),
+                ("Cell.write", lambda ballot: cell.write(ballot, b"x"), {"ballot": 513}),
+                ("Log", library.Log, {"epoch": 257, "index": 0, "m": 1, "k": 1}),
+                ("Log.push", lambda **its: log.push(batch=none, **its),
+                 {"epoch": 257, "prev": 1, "version": 2, "known": 1, "tag": 0}),
+                ("Log.peek", log.peek, {"epoch": 257, "tag": 0, "after": 1, "most": 1}),
+                ("Sequencer", library.Sequencer, {"epoch": 257, "last": 1}),
+                ("Proxy", lambda **its: library.Proxy(shards=shards, **its),
+                 {"epoch": 257, "number": 0, "m": 1, "k": 1, "known": 0}),
+                ("Proxy.submit", lambda step: proxy.submit(step, none), {"step": 1}),
+                ("Recoverer", lambda m, k, **its: library.Recoverer(shards=shards, shape=(m, k), **its),
+                 {"ballot": 513, "coordinators": 3, "m": 1, "k": 1}),
+                ("Storage", lambda tag: library.Storage(tag, STATE), {"tag": 0}),
+                ("Storage.read", lambda version: storage.read((b"", None), b"a", version), {"version": 0}),
+                ("Store.apply", lambda version: store.apply(version, none), {"version": 5}),
+                ("Store.undo_to", store.undo_to, {"version": 5}),
+                ("Store.forget_through", store.forget_through, {"version": 5}),
+            )
+            for call, make, numbers in calls:
+                for name, number in numbers.items():
+                    # with each of these bits cut off it would be the number that is taken below
+                    for bits in (8, 16, 32, 64) if name in self.SMALL else (64,):
+                        for wide in (number + 2**bits, number - 2**bits):
+                            with self.subTest(call=call, name=name, wide=wide):
+                                with self.assertRaises(library.OutOfLimits) as raised:
+                                    make(**numbers | {name: wide})
+                                self.assertIsInstance(raised.exception, ValueError)
+                                self.assertEqual(raised.exception.status, Status.LIMIT)
+                                self.assertIn(f"{name} is {wide}:", str(raised.exception))
+                with self.subTest(call=call):
+                    make(**numbers)
+
+    # numbers whose limit is below 2^8
+    SMALL = {"index", "m", "k", "tag", "most", "number", "coordinators"}
+
     def test_a_closed_machine_says_so(self):
         store = library.Store()
         store.close()
