@@ -13,7 +13,6 @@ pub struct SeedRecord {
 }
 
 impl SeedRecord {
-    /// An equal record.
     pub fn copy(&self) -> Result<Self, Memory>
         ensures { IfOk result (λ copy. copy ≡ self.now) }
     {
@@ -29,7 +28,6 @@ pub struct PeekedRecord {
 }
 
 impl PeekedRecord {
-    /// An equal record.
     pub fn copy(&self) -> Result<Self, Memory>
         ensures { IfOk result (λ copy. copy ≡ self.now) }
     {

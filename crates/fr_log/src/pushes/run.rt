@@ -73,10 +73,12 @@ impl Run {
     {
         let version = push.version().get();
         let first = self.first.version.get();
+        // Only the first header is stored whole: it may be a mark. The others are worked out from it.
         if version <= first {
             return push.is_headed(&self.first);
         }
         let past = version - first;
+        // Between two headers of a run there is none, since each follows the last by exactly one step.
         if past % self.step != 0 {
             return false;
         }
@@ -93,6 +95,7 @@ impl Run {
     {
         match Version::new(self.first.version.get() + place as u64 * self.step) {
             Some(version) => version,
+            // Its header was held, so its version is within the limit.
             None => unreachable!(),
         }
     }
@@ -113,6 +116,8 @@ impl Run {
         if header.version.get() != last + step {
             return false;
         }
+        // `known` has to rise by the step too, because a run does not store it for each header. With one proxy it
+        // does: each push reports the commit before it.
         if is_numbered(header, self.first.epoch, last, known + step) {
             self.step = step;
             self.more += 1;

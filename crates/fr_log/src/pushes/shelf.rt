@@ -67,6 +67,7 @@ impl Shelf {
     pub(crate) fn cut_through(&mut self, version: Version)
         ensures { self.new ≡ above version self.old }
     {
+        // From the front while something goes, so that a sweep costs what it frees and not what stays.
         while self.starts_by(version) {
             self.batches.pop_first();
         }
@@ -79,6 +80,7 @@ impl Shelf {
         ensures no { result ≡ false → AreAbove version self.now }
     {
         match self.batches.first_key_value() {
+            // `<=`: a Pop through a version covers the record at it.
             Some((first, _)) => *first <= version,
             None => false,
         }
@@ -111,6 +113,7 @@ impl Shelf {
             .batches
             .range((Bound::Excluded(&after), Bound::Unbounded))
         {
+            // Tested only when there is a further record: a full list alone does not mean that more remain.
             if given.len() == most {
                 return Ok(true);
             }
