@@ -59,6 +59,7 @@ pub(crate) fn locks(
 fn unlocked(alloc: Global, end: &EndTally) -> Result<Vec<u8>, Memory>
     ensures { IfOk result (λ logs. logs.items ≡ unlocked end.now) }
 {
+    // A log whose reply counts is not asked again: a later reply would change nothing (invariant 4).
     Ok(
         (0..end.m())
             .filter(|index| !end.has_replied(*index))
@@ -79,6 +80,7 @@ pub(crate) fn seeds(
     requires limits { IsGeneration generation }
     ensures { IfOk result (λ asks. asks.items ≡ map (seed_ask epoch tail.now generation.m generation.k) (others generation.m seeded.now)) }
 {
+    // By the shape of the new generation, whose logs these are (invariant 9).
     let logs = logs_but(alloc, generation.m(), seeded)?;
     let mut asks = Vec::with_capacity(alloc, logs.len())?;
     for index in logs.as_slice() {
@@ -86,6 +88,8 @@ pub(crate) fn seeds(
             epoch,
             index: *index,
         };
+        // Cut anew for each log and each repeat. The copy no longer changes, so it is the same seed each time
+        // (invariant 5).
         let seed = tail.seeds_for(alloc, id, generation.m(), generation.k())?;
         let to = NodeId::Log {
             epoch,
@@ -135,6 +139,7 @@ fn writes_to(
 fn silent(alloc: Global, poll: &CellPoll) -> Result<Vec<u8>, Memory>
     ensures { IfOk result (λ cells. cells.items ≡ unheard poll.now) }
 {
+    // Cells that answered are left out, so that a repeat costs only what is still missing.
     Ok(
         (0..poll.cells())
             .filter(|index| !poll.has_heard(*index))
@@ -148,6 +153,7 @@ fn value_of(alloc: Global, state: &CoordState) -> Result<CellValue, Memory>
 {
     match CellValue::new(encode(alloc, state)?) {
         Some(value) => Ok(value),
+        // 64 generations, the most that a state has, are spelled in fewer than the 4,096 bytes of a cell.
         None => unreachable!(),
     }
 }
@@ -171,6 +177,7 @@ pub(crate) fn marks(
             epoch,
             index: *index,
         };
+        // One push for all logs and all repeats (invariant 8). Each request owns its copy, since it travels alone.
         asks.push((to, Ask::Log(LogAsk::Push(mark.copy()?))))?;
     }
     Ok(asks)
@@ -191,6 +198,7 @@ fn mark(alloc: Global, draft: &Draft) -> Result<Push, Memory>
         state,
     ) {
         Some(push) => Ok(push),
+        // `rv + 1` was found to be a version before there was a plan, and `pev <= rv` as well (invariant 3).
         None => unreachable!(),
     }
 }
@@ -231,10 +239,12 @@ pub(crate) fn peeks_from(
 ) -> Result<Vec<(NodeId, Ask)>, Memory>
     ensures { IfOk result (λ asks. asks.items ≡ peeks_from epoch tail.now tag reached) }
 {
+    // Nothing of the tag is missing. An answer may have gone past `rv`, and what is above is not taken over.
     if reached >= tail.rv() {
         return Ok(Vec::new(alloc));
     }
     let most = most_records();
+    // All responders that hold the tag are asked, since any of them may be lost by now. The first answer counts.
     let logs = holding(alloc, tail, tag)?;
     let mut asks = Vec::with_capacity(alloc, logs.len())?;
     for index in logs.as_slice() {
@@ -257,6 +267,7 @@ pub(crate) fn peeks_from(
 fn holding(alloc: Global, tail: &Tail, tag: Tag) -> Result<Vec<u8>, Memory>
     ensures { IfOk result (λ logs. logs.items ≡ holding tail.now tag) }
 {
+    // The old generation's shape, because these are its logs (invariant 9).
     let m = tail.m();
     let k = tail.k();
     Ok(

@@ -23,6 +23,7 @@ impl Standing {
             Stage::Copying => self.copies_left(alloc),
             Stage::Writing => self.writes_left(alloc),
             Stage::Chosen => self.marks_left(alloc),
+            // Whatever it sent may still arrive, but it wants no reply to it.
             Stage::Lost { .. } => Ok(Vec::new(alloc)),
         }
     }
@@ -49,6 +50,7 @@ impl Standing {
         let Some(draft) = &self.plan else {
             return Ok(Vec::new(alloc));
         };
+        // Seeds and peeks are never wanted together, since seeds need the whole copy (invariant 5).
         if draft.tail.complete() {
             return seeds(
                 alloc,
@@ -85,6 +87,7 @@ impl Standing {
         ensures { IfOk result (λ asks. asks.items ≡ marks_of (state_of self.now) (state_of self.now).plan) }
     {
         match &self.plan {
+            // Pushed until each log said Held, because a log takes no commit before its mark.
             Some(draft) => marks(alloc, self.epoch, draft, self.marked.as_slice()),
             None => Ok(Vec::new(alloc)),
         }

@@ -172,7 +172,8 @@ fn is_rising_above(after: Version, records: &[PeekedRecord]) -> bool
 {
     let mut last = after;
     for record in records {
-        // Strictly, and above `after`: a store refuses a second batch at a version, so a repeated record would fail a server.
+        // Strictly, and above `after`: a store refuses a second batch at a version, so a repeated record would fail a
+        // server.
         if record.version <= last {
             return false;
         }

@@ -181,7 +181,8 @@ fn is_rising(records: &[SeedRecord]) -> bool
     let mut version = 0;
     let mut tag = 0;
     for record in records {
-        // Strictly by version and tag: a store refuses a second batch at a version, so a repeated record would fail a server.
+        // Strictly by version and tag: a store refuses a second batch at a version, so a repeated record would fail a
+        // server.
         let is_above = version < record.version.get()
             || version == record.version.get() && tag <= record.tag.get();
         if !is_above {

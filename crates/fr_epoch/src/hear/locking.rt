@@ -47,12 +47,14 @@ impl Standing {
         let Some(end) = self.replied(epoch, index, durable, known) else {
             return Ok(Vec::new(alloc));
         };
+        // Before the tally is replaced, because only a first reply of its log shows something.
         let shown = self.shown_with(index, &popped)?;
         if !end.is_covered() {
             self.end = Some(end);
             self.shown = shown;
             return Ok(Vec::new(alloc));
         }
+        // Plan and requests come first, and each can fail. What follows cannot (invariant 11).
         let drafted = self.draft(alloc, &end, &shown)?;
         let tags = self.tags();
         let asks = draft_asks(
@@ -65,6 +67,8 @@ impl Standing {
         )?;
         self.end = Some(end);
         self.shown = shown;
+        // The phase changes last: the replies that led here are in place, and from now on no other can change them
+        // (invariant 2).
         self.plan_on(drafted);
         Ok(asks)
     }
@@ -75,6 +79,8 @@ impl Standing {
     {
         let mut shown = self.shown.clone()?;
         if let Some(end) = &self.end {
+            // The tally and what was shown are of the same replies. A later Locked of a log may show more, but is
+            // dropped.
             if end.counts(index) {
                 shown.extend_from_slice(popped.as_slice())?;
             }
@@ -89,6 +95,8 @@ impl Standing {
         match &self.parent {
             Some(found) => match &self.end {
                 Some(end) => {
+                    // Only the generation that is to be ended counts (invariant 9): logs of an older one may be
+                    // locked as well.
                     if epoch == found.last.epoch() {
                         Some(replied(end, index, durable, known))
                     } else {
@@ -139,6 +147,7 @@ impl Standing {
                 self.plan = Some(draft);
             }
             Err(why) => {
+                // Only the phase: the replies stay (invariant 12).
                 self.stage = Stage::Lost { why };
             }
         }
@@ -158,6 +167,7 @@ fn replied(end: &EndTally, index: u8, durable: Version, known: Version) -> EndTa
     ensures { result ≡ replied end.now index durable known }
 {
     let mut end = end.copy();
+    // A stranger, or a reply that differs, leaves the tally as it was, so dropping the fault drops the reply.
     let _ = end.hear(index, durable, known);
     end
 }
