@@ -12,9 +12,11 @@ pub(crate) fn overwrite(bytes: &mut Vec<u8>, at: usize, new: &[u8])
 {
     let kept = bytes.len() - at;
     if kept < new.len() {
+        // Cut and extended in the room that is reserved: `at` bytes stay, so nothing is moved and nothing can fail.
         bytes.truncate(at);
         match bytes.extend_from_slice(new) {
             Ok(()) => {}
+            // Its room was reserved when the device was made.
             Err(_) => unreachable!(),
         }
     } else {
