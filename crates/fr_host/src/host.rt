@@ -10,7 +10,7 @@ use sqlite_std_file::{FileFrom, OpenError, Unknown};
 use std::alloc::Global;
 use std::io;
 
-/// A device over a file of the host.
+/// A device over a file of the host, of which nothing is assumed about a crash in a write (`Unknown`).
 pub type HostDevice = DiskDevice<FileFrom<Unknown>>;
 
 /// Opens a file of the host as a device with so much room, or that of its bytes if they are more. It is made if it is
@@ -34,18 +34,19 @@ pub fn open(
         Ok(files) => files,
         Err(error) => return Err(unopened(error)),
     };
+    // A log with something in it belongs to a database, whose pages the file would be without it.
     match log.len() {
         Ok(0) => {}
         Ok(_) => return Err(HostFault::Database),
         Err(error) => return Err(fault_of(error)),
     }
+    // The log is dropped here. The lock stays, since it is the database file's.
     match DiskDevice::over(alloc, db, room) {
         Ok(device) => Ok(device),
         Err(error) => Err(fault_of(error)),
     }
 }
 
-/// Why a file was not opened.
 fn unopened(error: OpenError) -> HostFault {
     match error {
         OpenError::Busy => HostFault::Busy,
@@ -63,6 +64,7 @@ fn fault_of(error: io::Error) -> HostFault {
         io::ErrorKind::PermissionDenied | io::ErrorKind::ReadOnlyFilesystem => HostFault::Denied,
         io::ErrorKind::StorageFull | io::ErrorKind::QuotaExceeded => HostFault::Full,
         io::ErrorKind::OutOfMemory => HostFault::Memory,
+        // The host has many more kinds, and a caller can act on none of them.
         _ => HostFault::Failed,
     }
 }
