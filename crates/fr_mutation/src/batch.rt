@@ -16,6 +16,8 @@ pub const MAX_MUTATIONS: usize = 1_000;
 
 /// A batch: what one commit changes. 0 to 1,000 mutations within their limits, which act from first
 /// to last. Contracts see it as the list of them.
+///
+/// It is within its limits by its type, so encoding it never overflows a field.
 #[derive(Debug, Drop)]
 pub struct Batch {
     mutations: Held,
@@ -23,7 +25,10 @@ pub struct Batch {
 
 /// The mutations of a batch: one that was made by `new` holds them alone, for that takes no memory, and
 /// a copy holds the one list of them with each copy of it.
-// A list of at most one, where an enum would do: whoever drops an enum has a case for each variant.
+///
+/// [`Batch::new`] takes no memory. A copy made before [`Batch::share`] is a new list of mutations, which its own
+/// copies share.
+// A list of at most one, where an enum would do: whoever drops an enum has a case for each variant, in every crate above.
 #[derive(Debug, Drop)]
 struct Held {
     alone: Vec<Mutation>,
