@@ -149,6 +149,7 @@ impl Recoverer {
         self.standing.reads.poll().cells()
     }
 
+    /// The shards of the keys: tag t is the shard of number t.
     pub fn map(&self) -> &ShardMap
         ensures { result.now ≡ self.now.begins }
     {
@@ -189,6 +190,7 @@ impl Recoverer {
         }
     }
 
+    /// An equal recoverer. It costs a copy of all that was copied of the old epoch so far.
     pub fn copy(&self, alloc: Global) -> Result<Self, Memory>
         ensures { IfOk result (λ copy. copy ≡ self.now) }
     {

@@ -172,6 +172,7 @@ impl Log {
         sweep_seed(&mut self.seed, self.popped.as_slice());
     }
 
+    /// An equal log. It costs all that the log holds.
     pub fn copy(&self) -> Result<Self, Memory>
         ensures { IfOk result (λ log. log ≡ self.now) }
     {

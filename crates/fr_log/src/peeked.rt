@@ -78,6 +78,7 @@ impl Peeked {
         }
     }
 
+    /// The tag of all its records.
     pub fn tag(&self) -> Tag
         ensures value { result ≡ self.now.tag }
         ensures sound { IsPeeked self.now }
@@ -125,6 +126,7 @@ impl Peeked {
         self.records
     }
 
+    /// An equal answer. Batches that are shared stay so.
     pub fn copy(&self) -> Result<Self, Memory>
         ensures { IfOk result (λ peeked. peeked ≡ self.now) }
     {

@@ -58,6 +58,7 @@ impl PoppedTags {
         self.entries.as_slice()
     }
 
+    /// An equal list, of at most 32 entries.
     pub fn copy(&self) -> Result<Self, Memory>
         ensures { IfOk result (λ copy. copy ≡ self.now) }
     {

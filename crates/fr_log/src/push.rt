@@ -115,6 +115,7 @@ impl Push {
         }
     }
 
+    /// The epoch of the log for which it is: logs of other epochs refuse it.
     pub fn epoch(&self) -> Epoch
         ensures value { result ≡ self.now.epoch }
         ensures sound { IsPush self.now }
@@ -209,6 +210,7 @@ impl Push {
             && self.mark == other.mark
     }
 
+    /// An equal push: one commit goes to several logs, and may be sent again.
     pub fn copy(&self) -> Result<Self, Memory>
         ensures { IfOk result (λ push. push ≡ self.now) }
     {

@@ -59,6 +59,7 @@ impl Seed {
         }
     }
 
+    /// The epoch of the log for which it is: logs of other epochs refuse it.
     pub fn epoch(&self) -> Epoch
         ensures value { result ≡ self.now.epoch }
         ensures sound { IsSeed self.now }
@@ -135,6 +136,7 @@ impl Seed {
         self.records.retain(|record| is_left(popped, record));
     }
 
+    /// An equal seed: it may have to be sent again.
     pub fn copy(&self) -> Result<Self, Memory>
         ensures { IfOk result (λ seed. seed ≡ self.now) }
     {

@@ -150,6 +150,7 @@ impl<D: Device> LogNode<D> {
         self.node.serve_all(alloc, asks)
     }
 
+    /// The device below, failed or not, as the node's calls left it.
     pub fn into_device(self) -> D
         ensures { result ≡ self.device }
     {

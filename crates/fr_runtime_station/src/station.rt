@@ -39,6 +39,7 @@ where
     N::Plain: Housable,
     <N::Plain as Machine>::Ask: Drop,
 {
+    /// A station of this node, whose lock is free and for which nobody waits yet.
     pub fn new(housed: Housed<N>) -> Self
         requires place { answers housed.place ≡ true }
         ensures place { result.place ≡ housed.place }

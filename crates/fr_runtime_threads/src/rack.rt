@@ -15,10 +15,13 @@ pub trait Rack {
     ghost use Rattle.fr_base.specs.declared.node.NodeFault.{NodeFault};
     ghost use Rattle.fr_undo.specs.declared.fault.StoreFault.{StoreFault};
 
+    /// A coordinator's cell, over whatever the rack keeps it on.
     type Cell: Node<Plain = Cell> + Send + Drop;
 
+    /// A log, over whatever the rack keeps it on.
     type Log: Node<Plain = Log> + Send + Drop;
 
+    /// The store of a storage server.
     type Store: ShardStore + Send + Drop;
 
     /// The faults with which a cell or a log may be refused: so a rack in memory that gives up does not pass.
@@ -27,6 +30,7 @@ pub trait Rack {
     /// Those with which a store may be.
     ghost CanRefuseStore: { Self → StoreFault → Type 0 };
 
+    /// The cell of this number, fresh: never asked, with promised and written 0.
     fn cell(&self, alloc: Global, index: u8) -> Result<Self::Cell, NodeFault>
         ensures works { IfOk result (λ node. Self.Cell.is_failed node ≡ false) }
         ensures free { IfOk result (λ node. Self.Cell.owed node ≡ None) }
@@ -44,6 +48,7 @@ pub trait Rack {
         ensures fresh { IfOk result (λ node. Self.Log.state node ≡ fresh_log id.epoch id.index m k) }
         ensures refused { IfErr result (CanRefuse self.now) };
 
+    /// The store of this tag, fresh: empty, at version 0.
     fn store(&self, alloc: Global, tag: Tag) -> Result<Self::Store, StoreFault>
         ensures works { IfOk result (λ store. Self.Store.is_failed store ≡ false) }
         ensures fresh { IfOk result (λ store. Self.Store.state store ≡ fresh) }

@@ -179,6 +179,7 @@ pub fn first_above<S: Backing>(
     }
 }
 
+/// The state bytes, in the one row of `meta`.
 pub fn bytes<S: Backing>(conn: &mut Connection<S>) -> Result<Bytes, Trouble>
     requires rest { IsAtRest (state S.Store conn.old) }
     requires laid { IsLaidOut (state S.Store conn.old).now }

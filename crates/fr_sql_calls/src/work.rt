@@ -40,7 +40,9 @@ pub enum MetaWork {
 pub struct Work {
     /// By key: what it holds, and what it is to hold. Equal ones write nothing.
     pub changes: BTreeMap<Bytes, Change>,
+    /// What happens to the undo rows, in the same transaction.
     pub rows: RowWork,
+    /// What is written into the one row of `meta`, in the same transaction.
     pub meta: MetaWork,
 }
 

@@ -62,6 +62,7 @@ impl<S: ShardStore> Model for Storage<S> {
 }
 
 impl<S: ShardStore> Storage<S> {
+    /// The tag that names its shard; it never changes.
     pub fn tag(&self) -> Tag
         ensures { result ≡ self.now.tag }
     {

@@ -109,6 +109,7 @@ impl World {
         is_safe(&self.nodes);
     }
 
+    /// The config that it started from; it never changes.
     pub fn config(&self) -> &Config
         ensures { result.now ≡ self.now.config }
     {
