@@ -239,7 +239,8 @@ pub(crate) fn peeks_from(
 ) -> Result<Vec<(NodeId, Ask)>, Memory>
     ensures { IfOk result (λ asks. asks.items ≡ peeks_from epoch tail.now tag reached) }
 {
-    // Nothing of the tag is missing. An answer may have gone past `rv`, and what is above is not taken over.
+    // Nothing of the tag is missing: whatever its logs hold above `rv` is not taken over, since no version there was
+    // acknowledged.
     if reached >= tail.rv() {
         return Ok(Vec::new(alloc));
     }

@@ -182,7 +182,7 @@ impl EndTally {
         // The least: an acknowledged version is held by all m logs, so by each that replied, and a version above it
         // was not acknowledged.
         let rv = least_durable(self.replies());
-        // `<`: at equality all that is held is known to be committed, and there is nothing to copy.
+        // `<`: at equality all that is taken over is known to be committed, so there is nothing to copy.
         if rv < pev {
             Err(Inconsistent)
         } else {

@@ -169,7 +169,7 @@ pub enum LogRefusal {
     NotMine,
     /// The peek begins below the epoch's first version, which is told.
     TooEarly { first: Version },
-    /// It holds another seed. An epoch has one, so one of the two is of no recovery.
+    /// It holds another seed. A recovery gives each log one, so one of the two is of no recovery.
     SeedDiffers,
     /// There is no mark before this push, or none to tell of.
     NoMark,

@@ -10,7 +10,7 @@ use fr_base::{Ballot, LogId, NodeId, Tag};
 pub enum Verdict {
     /// It comes to its node, and what the node tells is heard.
     Pass,
-    /// It never comes to its node, which is as if the sender had not asked.
+    /// It never comes to its node. Its sender hears nothing, and may send it again.
     DropAsk,
     /// It comes to its node, and what the node tells is lost.
     DropTell,
@@ -62,7 +62,7 @@ pub trait Faults {
     fn verdict(&self, to: NodeId, ask: &Ask) -> Verdict
         ensures { MayBefall self.now to ask.now result };
 
-    /// The node took the request, and gave a reply to it: a storm counts these.
+    /// The node gave a reply to this request, be it heard or lost. Faults that follow a script wait for it.
     fn answered(&self, to: NodeId, ask: &Ask);
 
     /// What happens to a node at this turn of the thread of crashes, if these generations are chosen, that of the start
@@ -85,8 +85,8 @@ pub trait Faults {
     fn audits(&self) {}
 }
 
-/// No ask is lost or late, and no node crashes. The recoverer of a ballot whose round is r begins at turn 100 (r -
-/// 1): that of round 2, the first after the start's, at turn 100.
+/// No ask is lost or late, and no node crashes. The recoverer of a ballot whose round is r begins at turn
+/// 100 (r - 1): that of round 2, the first after the start's, at turn 100.
 #[derive(Clone, Copy, Debug)]
 pub struct NoFaults;
 

@@ -77,8 +77,8 @@ impl HeldVersions {
                 Err(other) => seen = other,
             }
         }
-        // Read after the word is raised. Who waits counts himself first and reads the word then, so one of the two
-        // sees the other.
+        // Read after the word is raised. A thread that waits counts itself first and compares the word then, so one
+        // of the two sees the other.
         if self.waiting.load(Ordering::SeqCst) > 0 {
             word.wake_all();
         }

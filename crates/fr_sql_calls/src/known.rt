@@ -42,8 +42,8 @@ fn look_key<S: Backing>(
     ensures looked { OnOk result (LooksUp (is_same key.now) (value_in ((state S.Store conn.old).now.trees 0)) known.old known.new) }
     ensures looks { Looks (state S.Store conn.old) (state S.Store conn.new) result }
 {
-    // One statement a key, however often the batch names it. A key without a value is asked for again, which is
-    // harmless.
+    // One statement for a key that has a value, however often the batch names it. One without is asked for again,
+    // which is harmless.
     if known.contains_key(key) {
         return Ok(());
     }

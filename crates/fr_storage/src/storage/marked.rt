@@ -45,7 +45,8 @@ impl<S: ShardStore> Storage<S> {
         if let Some(refusal) = self.marked_refusal(&state) {
             return Err(refusal);
         }
-        // A repeated mark must not undo again: what was pulled in the epoch since then is above the cut.
+        // A repeated mark stops here: the own state does not say where its own epoch is cut, so there is nothing to
+        // undo to.
         if self.keeps(&state) {
             return Ok(());
         }
