@@ -55,7 +55,6 @@ pub(crate) fn locks(
     Ok(asks)
 }
 
-/// The logs that did not reply.
 fn unlocked(alloc: Global, end: &EndTally) -> Result<Vec<u8>, Memory>
     ensures { IfOk result (λ logs. logs.items ≡ unlocked end.now) }
 {
@@ -114,7 +113,6 @@ pub(crate) fn writes(
     writes_to(alloc, ballot, &value, cells.as_slice())
 }
 
-/// The writes of a value to these cells.
 fn writes_to(
     alloc: Global,
     ballot: Ballot,
@@ -135,7 +133,6 @@ fn writes_to(
     Ok(asks)
 }
 
-/// The cells that were not heard.
 fn silent(alloc: Global, poll: &CellPoll) -> Result<Vec<u8>, Memory>
     ensures { IfOk result (λ cells. cells.items ≡ unheard poll.now) }
 {
@@ -147,7 +144,6 @@ fn silent(alloc: Global, poll: &CellPoll) -> Result<Vec<u8>, Memory>
     )
 }
 
-/// The value that spells a state.
 fn value_of(alloc: Global, state: &CoordState) -> Result<CellValue, Memory>
     ensures { IfOk result (λ value. value ≡ spelling state.now) }
 {
@@ -183,7 +179,6 @@ pub(crate) fn marks(
     Ok(asks)
 }
 
-/// The mark of a plan.
 fn mark(alloc: Global, draft: &Draft) -> Result<Push, Memory>
     requires { draft.now.generation.seeded_to ≡ draft.now.tail.rv }
     ensures { IfOk result (λ push. push ≡ mark_of (plan_in draft.now)) }
@@ -264,7 +259,6 @@ pub(crate) fn peeks_from(
     Ok(asks)
 }
 
-/// The responders that hold a tag.
 fn holding(alloc: Global, tail: &Tail, tag: Tag) -> Result<Vec<u8>, Memory>
     ensures { IfOk result (λ logs. logs.items ≡ holding tail.now tag) }
 {
@@ -280,7 +274,7 @@ fn holding(alloc: Global, tail: &Tail, tag: Tag) -> Result<Vec<u8>, Memory>
     )
 }
 
-/// How many records a peek asks for.
+/// The most that one answer can have, so that a copy takes the fewest peeks.
 fn most_records() -> Most
     ensures { result ≡ 100 }
 {

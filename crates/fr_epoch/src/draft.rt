@@ -229,7 +229,6 @@ fn generation_of(
     }
 }
 
-/// The logs that replied.
 fn responders(alloc: Global, end: &EndTally) -> Result<Vec<u8>, Memory>
     ensures { IfOk result (λ logs. logs.items ≡ responders end.now) }
 {

@@ -53,7 +53,6 @@ fn is_responder(tail: &Tail, index: u8, tag: Tag) -> bool
         && usize::from(tag.get()) < tail.tags()
 }
 
-/// The lesser of two versions.
 fn earlier(a: Version, b: Version) -> Version
     ensures { result ≡ min a b }
 {

@@ -28,7 +28,6 @@ impl Standing {
         }
     }
 
-    /// The locks that were not answered.
     fn locks_left(&self, alloc: Global) -> Result<Vec<(NodeId, Ask)>, Memory>
         requires { IsKept (state_of self.now) }
         ensures { IfOk result (λ asks. asks.items ≡ locks_of (state_of self.now).parent (state_of self.now).end) }
@@ -71,7 +70,6 @@ impl Standing {
         }
     }
 
-    /// The writes that were not answered.
     pub(crate) fn writes_left(&self, alloc: Global) -> Result<Vec<(NodeId, Ask)>, Memory>
         ensures { IfOk result (λ asks. asks.items ≡ writes_of (state_of self.now) (state_of self.now).plan) }
     {

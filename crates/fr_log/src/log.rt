@@ -96,7 +96,7 @@ impl Log {
         }
     }
 
-    /// Its epoch and its number there.
+    /// Its epoch, and its number there, from 0.
     pub fn id(&self) -> LogId
         ensures epoch { result.epoch ≡ self.now.epoch }
         ensures index { result.index ≡ self.now.index }

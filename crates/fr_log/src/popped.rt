@@ -143,7 +143,7 @@ pub(crate) fn popped_at(popped: &[PoppedTag], tag: Tag) -> Version
     popped_of(popped, tag).unwrap_or(Version::ZERO)
 }
 
-/// Whether a record of a seed is left.
+/// Whether a record of a seed is above the version through which its tag is popped.
 pub(crate) fn is_left(popped: &[PoppedTag], seeded: &SeedRecord) -> bool
     ensures { result ≡ is_left popped.now seeded.now }
 {

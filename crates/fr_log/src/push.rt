@@ -249,7 +249,6 @@ impl Eq for Push {
     ghost laws = { IsSameness-equivalence is_same_push-IsSameness };
 }
 
-/// Whether the tags of bodies rise strictly.
 fn is_rising(bodies: &[Body]) -> bool
     ensures { result ≡ is_rising_from 0 bodies.now }
 {

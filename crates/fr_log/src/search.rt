@@ -8,7 +8,7 @@ use crate::records::{PeekedRecord, SeedRecord};
 use fr_base::{Memory, Tag, Version};
 use std::alloc::Global;
 
-/// The records of a seed above a version.
+/// The records of a seed above a version, found by halving.
 pub(crate) fn seeded_above(records: &[SeedRecord], after: Version) -> &[SeedRecord]
     requires { IsNonDecreasingBy (λ r. r.version) records.now }
     ensures { result.now ≡ filter (λ r. nat_lt after r.version) records.now }

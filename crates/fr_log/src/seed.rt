@@ -176,7 +176,6 @@ impl Eq for Seed {
     ghost laws = { IsSameness-equivalence is_same_seed-IsSameness };
 }
 
-/// Whether records rise strictly by version and tag.
 fn is_rising(records: &[SeedRecord]) -> bool
     ensures { result ≡ is_rising_from 0 0 records.now }
 {

@@ -12,7 +12,7 @@ use std::marker::Model;
 #[derive(Drop)]
 pub struct FaultyDevice<D: Device> {
     device: D,
-    /// The number of the call that fails.
+    /// The number of the call that fails, from 1; with 0 none does.
     due: u64,
     /// Whether all later calls fail too.
     is_lasting: bool,

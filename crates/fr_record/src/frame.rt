@@ -6,7 +6,7 @@ ghost use Rattle.fr_record.specs.Group.{records_of, places_of};
 
 use std::alloc::{AllocError, Global};
 
-/// Where the bytes of a record are.
+/// Where the bytes of a record are: their place in the file, and how many.
 #[derive(Clone, Copy, Debug, PartialEq, Eq)]
 pub(crate) struct Frame {
     pub(crate) at: usize,

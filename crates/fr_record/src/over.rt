@@ -46,7 +46,6 @@ pub(crate) fn mark(synced: &mut Vec<bool>, at: usize, n: usize)
     }
 }
 
-/// Marks all places from one on as synced.
 pub(crate) fn mark_synced(synced: &mut Vec<bool>, from: usize)
     requires within { from ≤ length synced.old.items }
     ensures len { length synced.new.items ≡ length synced.old.items }

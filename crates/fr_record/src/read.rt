@@ -37,7 +37,6 @@ fn load<D: Device>(alloc: Global, device: &mut D) -> Result<Vec<u8>, RecordFault
     Ok(bytes)
 }
 
-/// The bytes at a place.
 pub(crate) fn read_record<D: Device>(
     alloc: Global,
     device: &mut D,

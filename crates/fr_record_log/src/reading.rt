@@ -76,7 +76,6 @@ fn version_at(bytes: &[u8]) -> Result<(u64, &[u8]), RecordReadFault>
     }
 }
 
-/// The version of a number.
 fn version_of(number: u64) -> Version
     requires { number < 2 ^ 62 }
     ensures { result ≡ number }
@@ -102,7 +101,6 @@ fn tag_at(bytes: &[u8]) -> Result<(u8, &[u8]), RecordReadFault>
     }
 }
 
-/// The tag of a number.
 fn tag_of(number: u8) -> Tag
     requires { number < 32 }
     ensures { result ≡ number }
@@ -187,7 +185,6 @@ fn bodies_of(alloc: Global, bytes: &[u8]) -> Result<Vec<Body>, RecordReadFault>
     }
 }
 
-/// Adds a body at the end.
 fn add(bodies: &mut Vec<Body>, body: Body) -> Result<(), RecordReadFault>
     ensures ok { OnOk result (bodies.new.items ≡ bodies.old.items ++ body ∷ []) }
     ensures err { IfErr result (λ fault. fault ≡ RecordReadFault.Memory) }

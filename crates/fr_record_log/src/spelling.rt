@@ -163,7 +163,6 @@ fn put_bodies(out: &mut Vec<u8>, alloc: Global, bodies: &[Body]) -> Result<(), M
     Ok(())
 }
 
-/// Writes a body at the end.
 #[tactic(auto, unfolding(crate::specs::Spelling::spelled_body))]
 fn put_body(out: &mut Vec<u8>, alloc: Global, body: &Body) -> Result<(), Memory>
     ensures bytes { OnOk result (out.new.items ≡ out.old.items ++ spelled_body body.now) }
@@ -176,7 +175,6 @@ fn put_body(out: &mut Vec<u8>, alloc: Global, body: &Body) -> Result<(), Memory>
     Ok(())
 }
 
-/// The bytes of a batch.
 fn batch_bytes(alloc: Global, batch: &Batch) -> Result<Vec<u8>, Memory>
     ensures bytes { IfOk result (λ bytes. bytes.items ≡ spelled batch.now) }
     ensures short { IfOk result (λ bytes. length bytes.items ≤ 110007003) }

@@ -76,7 +76,6 @@ impl<C: Node<Plain = Cell> + Drop, L: Node<Plain = Log> + Drop> Directory<C, L> 
         })
     }
 
-    /// Whether an epoch is that of the start.
     fn is_first(&self, epoch: Epoch) -> bool
         ensures { result ≡ is_first (places_of self.now) epoch }
     {
@@ -100,7 +99,7 @@ impl<C: Node<Plain = Cell> + Drop, L: Node<Plain = Log> + Drop> Directory<C, L> 
         None
     }
 
-    /// The cell of a number.
+    /// The cell of a number; none past the last one.
     pub fn cell(&self, index: u8) -> Option<&Station<C>>
         ensures there { (result ≡ None) ↔ ((places_of self.now).cells ≤ index) }
         ensures found { IfSome result (λ cell. cell.now.place ≡ node.Cell index) }

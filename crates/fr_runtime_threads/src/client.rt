@@ -296,7 +296,6 @@ impl<W: Workload + Drop> Client<W> {
     }
 }
 
-/// Whether a batch is left over.
 fn is_left(kept: &Option<Order>) -> bool
     ensures { waiting_if result ≡ waiting_for kept.now }
 {

@@ -110,7 +110,6 @@ fn write_all<S: Backing>(
     Ok(())
 }
 
-/// Whether two values, or nones, are one.
 fn is_same_value(a: &Option<Bytes>, b: &Option<Bytes>) -> bool
     ensures { result ≡ same_value a.now b.now }
 {

@@ -16,7 +16,7 @@ use fr_mutation::Batch;
 use std::alloc::Global;
 use std::collections::BTreeMap;
 
-/// What becomes of a key.
+/// A key's fate, from its old and its new value.
 #[derive(Debug, Drop)]
 pub struct Change {
     /// What it holds before: a value, or none.

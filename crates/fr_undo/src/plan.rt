@@ -61,7 +61,6 @@ impl Plan {
         }
     }
 
-    /// Adds a key that comes behind all others.
     fn push(&mut self, key: Bytes, after: Option<Bytes>) -> Result<(), Memory>
         requires plan { IsPlan self.old }
         requires next { IsNext self.old key }
@@ -73,7 +72,6 @@ impl Plan {
         Ok(())
     }
 
-    /// Moves all keys to the tree.
     fn to_tree(&mut self, alloc: Global) -> Result<(), Memory>
         requires { IsPlan self.old }
         ensures list { OnOk result (self.new.rising.items ≡ []) }

@@ -8,7 +8,6 @@ ghost use Rattle.fr_undo.specs.Changes.{covers};
 use fr_base::{Bytes, Memory};
 use std::alloc::Global;
 
-/// Whether some range holds the key.
 pub(crate) fn is_covered(ranges: &[(Bytes, Bytes)], key: &Bytes) -> bool
     ensures { result ≡ covers ranges.now key.now }
 {

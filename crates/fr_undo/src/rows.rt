@@ -112,7 +112,6 @@ pub(crate) fn drop_through(rows: &mut VecDeque<Row>, index: &mut RowIndex, versi
     drop_front(rows, index, count);
 }
 
-/// Whether a row is before a place.
 fn is_before(row: &Row, version: Version, key: &Bytes) -> bool
     ensures { result ≡ is_lt (place_cmp row.now.0 (version, key.now)) }
 {

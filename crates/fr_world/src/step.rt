@@ -107,7 +107,6 @@ fn is_lately_given(nodes: &Nodes, event: &Event) -> bool {
     }
 }
 
-/// Makes the turn that an event is.
 fn happen(alloc: Global, nodes: &mut Nodes, keeps: bool, event: Event) -> Result<Answer, NotEnabled>
     requires kept { IsKept nodes.old }
     ensures turn { Steps (state_of nodes.old) (state_of nodes.new) event result }

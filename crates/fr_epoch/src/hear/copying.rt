@@ -71,7 +71,6 @@ impl Standing {
         }
     }
 
-    /// Its copy goes on by an answer.
     fn go_on(&mut self, index: u8, peeked: Peeked) -> Result<(), Memory>
         ensures ok { OnOk result ((draft : Draft) → self.old.plan ≡ Some draft
             → state_of self.new ≡ with_tail (state_of self.old) (plan_in draft) index peeked) }
@@ -87,7 +86,6 @@ impl Standing {
         }
     }
 
-    /// Its copy is this one from now on.
     fn copy_with(&mut self, tail: Tail)
         ensures { (draft : Draft) → self.old.plan ≡ Some draft → self.new ≡ record self.old { plan = Some (record draft { tail = tail }) } }
     {

@@ -137,7 +137,6 @@ impl Standing {
         }
     }
 
-    /// It has its plan, or it is lost.
     fn plan_on(&mut self, drafted: Result<Draft, LostWhy>)
         ensures { state_of self.new ≡ with_draft (state_of self.old) (plan_result drafted) }
     {
@@ -153,7 +152,7 @@ impl Standing {
         }
     }
 
-    /// How many tags there are.
+    /// Tags, one for each shard, from 1 to 32.
     pub(crate) fn tags(&self) -> u8
         ensures value { result ≡ length self.now.map }
         ensures few { result ≤ MAX_SHARDS }
@@ -162,7 +161,6 @@ impl Standing {
     }
 }
 
-/// The replies with one more.
 fn replied(end: &EndTally, index: u8, durable: Version, known: Version) -> EndTally
     ensures { result ≡ replied end.now index durable known }
 {

@@ -66,7 +66,6 @@ impl Log {
         Ok(LogTell::Held { version })
     }
 
-    /// Holds one more push.
     fn hold(&mut self, alloc: Global, push: Push) -> Result<(), Memory>
         requires taken { push_refusal self.old push ≡ None }
         requires other { is_push_held self.old push ≡ false }
@@ -240,7 +239,6 @@ impl Log {
     }
 }
 
-/// The greater of two versions.
 fn later(a: Version, b: Version) -> Version
     ensures { result ≡ max a b }
 {

@@ -46,14 +46,13 @@ impl Run {
         }
     }
 
-    /// How many there are.
     pub(crate) fn len(&self) -> usize
         ensures { result ≡ length self.now }
     {
         self.more + 1
     }
 
-    /// The version of the first one.
+    /// The version of its first header, by which a run is sought.
     pub(crate) fn version(&self) -> Version
         ensures { result ≡ begins self.now }
     {
@@ -88,7 +87,7 @@ impl Run {
         follows(push, self.first.epoch, version - self.step)
     }
 
-    /// The version of the one at a place.
+    /// The version of the header at a place, the first at 0.
     pub(crate) fn version_at(&self, place: usize) -> Version
         requires { place < length self.now }
         ensures { Some result ≡ version_at self.now place }

@@ -37,14 +37,13 @@ impl Shelf {
         }
     }
 
-    /// The batch at a version.
     pub(crate) fn at(&self, version: Version) -> Option<&Batch>
         ensures { option_copied result ≡ batch_at version self.now }
     {
         self.batches.get(&version)
     }
 
-    /// Puts a batch behind the others.
+    /// Puts a batch behind the others, whose versions are lower.
     pub(crate) fn put(&mut self, version: Version, batch: Batch) -> Result<(), Memory>
         requires { AreBelow version self.old }
         ensures after { OnOk result (self.new ≡ self.old ++ (version, batch) ∷ []) }

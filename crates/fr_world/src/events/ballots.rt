@@ -49,7 +49,7 @@ pub(crate) fn begun(
     Ok(Answer::Done)
 }
 
-/// A tell comes to a recoverer.
+/// A recoverer hears a reply, if it is up and was given it.
 pub(crate) fn heard_by_recoverer(
     alloc: Global,
     nodes: &mut Nodes,

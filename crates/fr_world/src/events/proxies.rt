@@ -47,7 +47,7 @@ pub(crate) fn submitted(
     Ok(Answer::Done)
 }
 
-/// A tell comes to a proxy.
+/// A proxy hears a reply, if it is up and was given it.
 pub(crate) fn heard_by_proxy(
     alloc: Global,
     nodes: &mut Nodes,
