@@ -102,7 +102,11 @@ class Count:
 
 def heads():
     """The numbers of the invariants at the head of each crate whose rules are subtle."""
-    return {it: [int(n) for n in NUMBERED.findall(read(f"crates/{it}/src/lib.rt"))] for it in SUBTLE}
+    found = {}
+    for it in SUBTLE:
+        head = f"crates/{it}/src/lib.rt"
+        found[it] = [int(n) for n in NUMBERED.findall(read(head))] if os.path.isfile(f"{TOP}/{head}") else []
+    return found
 
 
 def why_counts():
