@@ -16,7 +16,7 @@
 //!    kernel may drop what it could not write and call the next sync good, so the disk is not known until it is read
 //!    again.
 //! 5. A device takes the memory for all its room at the opening (`room`). A write may answer `Full` or `Device`, and
-//!    has no answer for want of memory.
+//!    cannot answer `Memory`.
 //! 6. A write that the disk below refuses a mirror is *due*: the copy has it, and it is made anew, with the same
 //!    bytes in the same place, before the next write, cut or sync (`lacks`). One can be due at most. So a full disk
 //!    does not end a store.

@@ -45,7 +45,7 @@ impl MemoryDevice {
         ensures durable { IfOk result (λ m. IsDurable (disk_of m)) }
     {
         Ok(MemoryDevice {
-            // All of it now, since a write may answer `Full` but has no answer for want of memory.
+            // All of it now, since a write may answer `Full` but cannot answer `Memory`.
             bytes: Vec::with_capacity(alloc, capacity)?,
             synced: Vec::with_capacity(alloc, capacity)?,
             from: 0,
