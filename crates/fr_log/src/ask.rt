@@ -51,7 +51,7 @@ impl Most {
     }
 }
 
-/// A request to a log. Any of them may be repeated, or come late.
+/// A request to a log.
 #[derive(Clone, Debug, Drop, PartialEq, Eq)]
 pub enum LogAsk {
     /// To take what an epoch takes over from the one before.
@@ -109,7 +109,7 @@ impl LogAsk {
     }
 }
 
-/// The reply of a log to a request.
+/// The reply of a log.
 #[derive(Clone, Debug, Drop, PartialEq, Eq)]
 pub enum LogTell {
     /// It holds exactly this seed, taken now or before.

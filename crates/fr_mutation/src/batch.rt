@@ -1,4 +1,4 @@
-//! Mutations that act together.
+//! Mutations that act together. Each is within its limits by its type, so encoding it never overflows a field.
 ghost use Rattle.std.specs.Prelude.{◌≡◌, IfOk, OnOk, IfErr, None, Some, Err};
 ghost use Rattle.fr_mutation.specs.Limits.{batch_fault};
 ghost use Rattle.fr_mutation.specs.Held.{held};
@@ -16,8 +16,6 @@ pub const MAX_MUTATIONS: usize = 1_000;
 
 /// A batch: what one commit changes. 0 to 1,000 mutations within their limits, which act from first
 /// to last. Contracts see it as the list of them.
-///
-/// It is within its limits by its type, so encoding it never overflows a field.
 #[derive(Debug, Drop)]
 pub struct Batch {
     mutations: Held,

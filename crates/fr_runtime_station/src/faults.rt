@@ -1,4 +1,8 @@
 //! What happens to asks and nodes while threads run, and when recoverers begin.
+//!
+//! The contract bounds what faults may do: which verdict a request may get, what may happen to a node, and when one
+//! that asks may be gone. Without that a wrapper that hands on no fault at all would meet the clauses of a storm.
+//! Which number a storm draws is not said.
 ghost use Rattle.std.specs.Prelude.{◌≡◌};
 
 use crate::chosen::Chosen;
@@ -33,10 +37,6 @@ pub enum Blow {
 
 /// What happens to asks and nodes, and when recoverers begin. It is asked by the thread whose turn it is, with no
 /// lock held.
-///
-/// The contract bounds what faults may do: which verdict a request may get, what may happen to a node, and when one
-/// that asks may be gone. Without that a wrapper that hands on no fault at all would meet the clauses of a storm.
-/// Which number a storm draws is not said.
 pub trait Faults {
     ghost use Rattle.std.specs.Prelude.{ℕ, Bool, List, Option};
     ghost use Rattle.fr_ask.specs.declared.ask.Ask.{Ask};
