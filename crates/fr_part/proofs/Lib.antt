@@ -1,2 +1,5 @@
 pub mod Held
+pub mod OfFault
+pub mod OfKind
+pub mod OfPush
 pub mod Steps
