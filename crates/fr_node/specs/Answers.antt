@@ -41,3 +41,8 @@ order_refusal refusal back read (order.Take at turn) = refusal at turn
 order_refusal refusal back read (order.Back at hearing) = back at hearing
 order_refusal refusal back read (order.Read key version) = read key version
 order_refusal refusal back read o = None
+
+-- whether a file lacks room for what it writes: only a turn writes anything
+abbrev pub order_lacks : (NodeTurn → Type 0) → NodeRequest → Type 0
+order_lacks LacksRoom (order.Take at turn) = LacksRoom turn
+order_lacks LacksRoom o = ⊥

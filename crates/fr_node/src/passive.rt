@@ -4,7 +4,7 @@ ghost use Rattle.fr_audit_journal.specs.declared.act.Act.{Act};
 ghost use Rattle.fr_audit_journal.specs.Replays.{Replays, ends_by_crash, steps};
 ghost use Rattle.fr_node.specs.declared.fault.Crash.{Crash};
 ghost use Rattle.fr_node.specs.Passive.{back_refusal, IsOnlyCrash};
-ghost use Rattle.fr_node.specs.Turns.{IfCrashed, IsBack, Refuses};
+ghost use Rattle.fr_node.specs.Turns.{IfCrashed, IsBack, RefusesFor};
 
 use crate::acting::Acting;
 use crate::answering::Answering;
@@ -98,7 +98,7 @@ fn started_again(
     ensures back { IfOk result (λ answered. IsBack at hearing.now answered.items) }
     ensures only { IfOk result (λ answered. IsOnlyCrash answered.items) }
     ensures files { OnOk result (has_files ≡ true) }
-    ensures refused { Refuses (back_refusal has_files journal.old.entries at hearing.now) result }
+    ensures refused { RefusesFor (back_refusal has_files journal.old.entries at hearing.now) result }
     ensures err { OnErr result (journal.new.entries ≡ journal.old.entries) }
     ensures crashed { IfCrashed result (λ why. why ≡ Crash.Memory) }
 {
@@ -140,7 +140,7 @@ where
 {
     ghost use Rattle.std.specs.Prelude.{[], not, None, Some};
     ghost use Rattle.fr_node.specs.declared.fault.TurnRefusal.TheVariants as refusal;
-    ghost use Rattle.fr_node.specs.Passive.{IsCrash, back_refusal, passive_refusal};
+    ghost use Rattle.fr_node.specs.Passive.{IsCrash, back_refusal, lacks_room, passive_refusal};
 
     ghost node = { λ p. p.place };
 
@@ -151,6 +151,8 @@ where
     ghost works = { λ p. not (N.is_failed p.node) };
 
     ghost refusal = { λ p at turn. passive_refusal N.Plain.unwrapped p.entries at turn };
+
+    ghost LacksRoom = { λ p turn. lacks_room N.Plain.unwrapped (N.LacksRoom p.node) turn };
 
     ghost back_refusal = { λ p at hearing. back_refusal p.has_files p.entries at hearing };
 

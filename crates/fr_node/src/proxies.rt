@@ -5,7 +5,7 @@ ghost use Rattle.fr_node.specs.Leads.{LeadsTo};
 ghost use Rattle.fr_node.specs.Nodes.{IsMemory, proxy_refusal};
 ghost use Rattle.fr_node.specs.Steps.{ProxyStep};
 ghost use Rattle.fr_node.specs.declared.turn.NodeTurn.{NodeTurn};
-ghost use Rattle.fr_node.specs.Turns.{IfCrashed, IfRefused, IsTaken, Refuses};
+ghost use Rattle.fr_node.specs.Turns.{IfCrashed, IfRefused, IsTaken, RefusesFor};
 
 use crate::{Acting, Hearing, NodeTurn, NodeTurnFault, Round, TurnRefusal, Wants, stamp_above};
 use fr_ask::{Last, Tell};
@@ -73,7 +73,7 @@ impl ProxyNode {
     fn submit(&mut self, at: Stamp, step: Step, batch: Batch) -> Result<Entry, NodeTurnFault>
         ensures place { self.new.place ≡ self.old.place }
         ensures taken { IfOk result (λ entry. IsTaken self.old.entries self.new.entries at (NodeTurn.Submit step batch) entry) }
-        ensures refused { Refuses (proxy_refusal self.old.state self.old.entries at (NodeTurn.Submit step batch)) result }
+        ensures refused { RefusesFor (proxy_refusal self.old.state self.old.entries at (NodeTurn.Submit step batch)) result }
         ensures left { IfRefused result (self.new ≡ self.old) }
         ensures crashed { IfCrashed result IsMemory }
     {
@@ -109,7 +109,7 @@ impl ProxyNode {
     ) -> Result<Entry, NodeTurnFault>
         ensures place { self.new.place ≡ self.old.place }
         ensures taken { IfOk result (λ entry. IsTaken self.old.entries self.new.entries at (NodeTurn.Hear from tell) entry) }
-        ensures refused { Refuses (proxy_refusal self.old.state self.old.entries at (NodeTurn.Hear from tell)) result }
+        ensures refused { RefusesFor (proxy_refusal self.old.state self.old.entries at (NodeTurn.Hear from tell)) result }
         ensures left { IfRefused result (self.new ≡ self.old) }
         ensures crashed { IfCrashed result IsMemory }
     {
@@ -149,6 +149,8 @@ impl Acting for ProxyNode {
     ghost works = { λ p. true };
 
     ghost refusal = { λ p at turn. proxy_refusal p.state p.entries at turn };
+
+    ghost LacksRoom = { λ node turn. ⊥ };
 
     ghost back_refusal = { λ node at hearing. Some refusal.NotTaken };
 

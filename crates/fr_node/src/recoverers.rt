@@ -6,7 +6,7 @@ ghost use Rattle.fr_node.specs.Leads.{LeadsTo};
 ghost use Rattle.fr_node.specs.Nodes.{IsMemory, recoverer_refusal};
 ghost use Rattle.fr_node.specs.Steps.{RecStep};
 ghost use Rattle.fr_node.specs.declared.turn.NodeTurn.{NodeTurn};
-ghost use Rattle.fr_node.specs.Turns.{IfCrashed, IfRefused, IsTaken, Refuses};
+ghost use Rattle.fr_node.specs.Turns.{IfCrashed, IfRefused, IsTaken, RefusesFor};
 
 use crate::{Acting, Hearing, NodeTurn, NodeTurnFault, Round, TurnRefusal, Wants, stamp_above};
 use fr_ask::{Last, Tell};
@@ -83,7 +83,7 @@ impl RecovererNode {
     fn begin(&mut self, at: Stamp) -> Result<Entry, NodeTurnFault>
         ensures place { self.new.place ≡ self.old.place }
         ensures taken { IfOk result (λ entry. IsTaken self.old.entries self.new.entries at NodeTurn.Begin entry) }
-        ensures refused { Refuses (recoverer_refusal self.old.state.has_begun self.old.entries at NodeTurn.Begin) result }
+        ensures refused { RefusesFor (recoverer_refusal self.old.state.has_begun self.old.entries at NodeTurn.Begin) result }
         ensures left { IfRefused result (self.new ≡ self.old) }
         ensures crashed { IfCrashed result IsMemory }
     {
@@ -109,7 +109,7 @@ impl RecovererNode {
     ) -> Result<Entry, NodeTurnFault>
         ensures place { self.new.place ≡ self.old.place }
         ensures taken { IfOk result (λ entry. IsTaken self.old.entries self.new.entries at (NodeTurn.Hear from tell) entry) }
-        ensures refused { Refuses (recoverer_refusal self.old.state.has_begun self.old.entries at (NodeTurn.Hear from tell)) result }
+        ensures refused { RefusesFor (recoverer_refusal self.old.state.has_begun self.old.entries at (NodeTurn.Hear from tell)) result }
         ensures left { IfRefused result (self.new ≡ self.old) }
         ensures crashed { IfCrashed result IsMemory }
     {
@@ -163,6 +163,8 @@ impl Acting for RecovererNode {
     ghost works = { λ r. true };
 
     ghost refusal = { λ r at turn. recoverer_refusal r.state.has_begun r.entries at turn };
+
+    ghost LacksRoom = { λ node turn. ⊥ };
 
     ghost back_refusal = { λ node at hearing. Some refusal.NotTaken };
 

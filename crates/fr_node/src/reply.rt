@@ -1,7 +1,7 @@
 //! What a process is asked of its node, and what it answers.
 ghost use Rattle.std.specs.Prelude.{◌≡◌, true, None, IfOk, IfSome};
 ghost use Rattle.fr_node.specs.declared.reply.NodeRequest.{NodeRequest};
-ghost use Rattle.fr_node.specs.Answers.{IsAnswer, order_refusal};
+ghost use Rattle.fr_node.specs.Answers.{IsAnswer, order_lacks, order_refusal};
 ghost use Rattle.fr_node.specs.Turns.{IfCrashed, IfRefused, Refuses, UnlessCrashed};
 
 use crate::acting::Acting;
@@ -77,7 +77,7 @@ pub fn answer<T: Acting>(
         (record { node = T.node node.new; entries = T.entries node.new; last = T.last_of node.new; wanted = T.wanted node.new; read = T.value_at node.new })
         order reply) }
     ensures works { UnlessCrashed result (T.works node.new ≡ true) }
-    ensures refused { Refuses (order_refusal (T.refusal node.old) (T.back_refusal node.old) (T.read_refusal node.old) order) result }
+    ensures refused { Refuses (order_refusal (T.refusal node.old) (T.back_refusal node.old) (T.read_refusal node.old) order) (order_lacks (T.LacksRoom node.old) order) result }
     ensures left { IfRefused result (T.entries node.new ≡ T.entries node.old) }
     ensures stands { IfRefused result (T.last_of node.new ≡ T.last_of node.old) }
     ensures crashed { IfCrashed result T.CanCrash }
@@ -123,7 +123,7 @@ fn take<T: Acting>(
         (record { node = T.node node.new; entries = T.entries node.new; last = T.last_of node.new; wanted = T.wanted node.new; read = T.value_at node.new })
         (NodeRequest.Take at turn) reply) }
     ensures works { UnlessCrashed result (T.works node.new ≡ true) }
-    ensures refused { Refuses (T.refusal node.old at turn) result }
+    ensures refused { Refuses (T.refusal node.old at turn) (T.LacksRoom node.old turn) result }
     ensures left { IfRefused result (T.entries node.new ≡ T.entries node.old) }
     ensures stands { IfRefused result (T.last_of node.new ≡ T.last_of node.old) }
     ensures crashed { IfCrashed result T.CanCrash }

@@ -8,7 +8,7 @@ ghost use Rattle.fr_node.specs.Steps.{StorageStep};
 ghost use Rattle.fr_node.specs.declared.turn.NodeTurn.{NodeTurn};
 ghost use Rattle.fr_node.specs.declared.fault.Crash.{Crash};
 ghost use Rattle.fr_node.specs.declared.fault.TurnRefusal.{TurnRefusal};
-ghost use Rattle.fr_node.specs.Turns.{IfCrashed, IfRefused, IsBack, IsTaken, Refuses, RefusesRead, UnlessCrashed};
+ghost use Rattle.fr_node.specs.Turns.{IfCrashed, IfRefused, IsBack, IsTaken, RefusesFor, UnlessCrashed};
 ghost use Rattle.fr_storage.specs.Server.{storage_of};
 ghost use Rattle.fr_undo.specs.Undo.{value_undone};
 
@@ -112,7 +112,7 @@ impl<S: ShardStore> StorageNode<S> {
         ensures place { self.new.place ≡ self.old.place }
         ensures taken { IfOk result (λ entry. IsTaken self.old.entries self.new.entries at (NodeTurn.Hear from tell) entry) }
         ensures works { OnOk result (self.new.is_over ≡ false) }
-        ensures refused { Refuses (storage_refusal self.old.entries at (NodeTurn.Hear from tell)) result }
+        ensures refused { RefusesFor (storage_refusal self.old.entries at (NodeTurn.Hear from tell)) result }
         ensures left { IfRefused result (self.new ≡ self.old) }
         ensures crashed { IfCrashed result IsStoreCrash }
     {
@@ -156,7 +156,7 @@ impl<S: ShardStore> StorageNode<S> {
         ensures entries { self.new.entries ≡ self.old.entries }
         ensures stands { UnlessCrashed result (storage_of S.state self.new.storage ≡ storage_of S.state self.old.storage) }
         ensures works { UnlessCrashed result (self.new.is_over ≡ false) }
-        ensures refused { RefusesRead (storage_read_refusal self.old.shard (storage_of S.state self.old.storage) key.now version) result }
+        ensures refused { RefusesFor (storage_read_refusal self.old.shard (storage_of S.state self.old.storage) key.now version) result }
         ensures crashed { IfCrashed result IsStoreCrash }
     {
         match value_said(alloc, &mut self.storage, &self.shard, key, version) {
@@ -184,7 +184,7 @@ impl<S: ShardStore> StorageNode<S> {
         ensures back { IfOk result (λ answered. IsBack at hearing answered.items) }
         ensures acts { IfOk result (λ answered. map (λ e. e.act) answered.items ≡ back_acts (storage_of S.state self.old.storage) hearing) }
         ensures works { self.new.is_over ≡ false }
-        ensures refused { Refuses (storage_back_refusal self.old.has_files self.old.entries at) result }
+        ensures refused { RefusesFor (storage_back_refusal self.old.has_files self.old.entries at) result }
         ensures left { IfRefused result (self.new.entries ≡ self.old.entries) }
         ensures crashed { IfCrashed result (λ why. why ≡ Crash.Memory) }
     {
@@ -278,6 +278,8 @@ impl<S: ShardStore> Acting for StorageNode<S> {
     ghost works = { λ s. not s.is_over };
 
     ghost refusal = { λ s at turn. storage_refusal s.entries at turn };
+
+    ghost LacksRoom = { λ node turn. ⊥ };
 
     ghost back_refusal = { λ s at hearing. storage_back_refusal s.has_files s.entries at };
 
