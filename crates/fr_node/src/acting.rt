@@ -1,8 +1,10 @@
 //! Nodes that a process serves.
 ghost use Rattle.std.specs.Prelude.{◌≡◌, ◌++◌, true, IfOk, OnOk};
+ghost use Rattle.fr_node.specs.Stands.{stand_of};
 ghost use Rattle.fr_node.specs.Turns.{IfCrashed, IfRefused, IsBack, IsTaken, Refuses, RefusesFor, UnlessCrashed};
 
 use crate::fault::NodeTurnFault;
+use crate::stand::{Stand, stand_from};
 use crate::turn::{Hearing, NodeTurn, Round};
 use crate::wants::Wants;
 use fr_ask::Last;
@@ -106,6 +108,22 @@ pub trait Acting {
         ensures works { OnOk result (works self.new ≡ true) }
         ensures crashed { IfCrashed result CanCrash }
         ensures never_refused { IfRefused result ⊥ };
+
+    /// Where it stands: its state, or, of a storage server that is not asked for its rows, all but these. Then it reads
+    /// no row.
+    fn stand(&mut self, alloc: Global, is_whole: bool) -> Result<Stand, NodeTurnFault>
+        requires works { works self.old ≡ true }
+        ensures node { node self.new ≡ node self.old }
+        ensures stand { IfOk result (λ stand. stand ≡ stand_of is_whole (last_of self.old)) }
+        ensures entries { entries self.new ≡ entries self.old }
+        ensures stands { OnOk result (last_of self.new ≡ last_of self.old) }
+        ensures works { OnOk result (works self.new ≡ true) }
+        ensures crashed { IfCrashed result CanCrash }
+        ensures never_refused { IfRefused result ⊥ }
+    {
+        let last = self.last(alloc)?;
+        Ok(stand_from(last, is_whole))
+    }
 
     /// The value that a key had at a version. It is no turn: nothing is entered, and nothing changes.
     fn read(

@@ -245,7 +245,7 @@ func (n *node) takeAll(group []*item, found []*answer) error {
 		case its.Type == "error":
 			records = append(records, journal.Record{Refused: its.Code})
 		default:
-			records = append(records, journal.Record{Answer: &journal.Said{Entries: its.entries(), Last: bare(its.Last)}})
+			records = append(records, journal.Record{Answer: &journal.Said{Entries: its.entries(), Last: its.stands()}})
 		}
 	}
 	if err := n.write(records...); err != nil {
@@ -317,12 +317,13 @@ func (n *node) heed(its *answer) {
 		n.agent.bus.Counts.Add("lines refused", 1)
 		return
 	}
-	if its.Last == nil {
+	last := its.stands()
+	if last == nil {
 		return
 	}
 	var stands where
-	if json.Unmarshal(its.Last, &stands) == nil {
+	if json.Unmarshal(last, &stands) == nil {
 		n.where = stands
 	}
-	n.last = bare(its.Last)
+	n.last = last
 }

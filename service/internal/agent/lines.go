@@ -42,6 +42,7 @@ type answer struct {
 	Entry     json.RawMessage      `json:"entry"`
 	Entries   []json.RawMessage    `json:"entries"`
 	Last      json.RawMessage      `json:"last"`
+	Stands    json.RawMessage      `json:"stands"` // of a storage server, in place of last: that without its rows
 	Wants     [][2]json.RawMessage `json:"wants"`
 	Value     *string              `json:"value"`
 	Code      int                  `json:"code"`
@@ -53,6 +54,14 @@ func (a *answer) entries() []json.RawMessage {
 		return []json.RawMessage{a.Entry}
 	}
 	return a.Entries
+}
+
+// stands is where the node stands, without a storage server's rows; nothing if the answer does not say it.
+func (a *answer) stands() json.RawMessage {
+	if a.Stands != nil {
+		return a.Stands
+	}
+	return bare(a.Last)
 }
 
 // act is as much of an entry as an agent looks at.

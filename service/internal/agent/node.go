@@ -297,9 +297,9 @@ func (n *node) findLeft() error {
 
 // keep enters an answer to a line that is not one of those given: `settles` is the one that it answers too.
 func (n *node) keep(it *item, its *answer, settles *item) error {
-	record := journal.Record{Entries: its.entries(), Last: bare(its.Last)}
+	record := journal.Record{Entries: its.entries(), Last: its.stands()}
 	if settles != nil {
-		record = journal.Record{Answer: &journal.Said{Entries: its.entries(), Last: bare(its.Last)}}
+		record = journal.Record{Answer: &journal.Said{Entries: its.entries(), Last: its.stands()}}
 	}
 	if err := n.write(record); err != nil {
 		return err
