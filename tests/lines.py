@@ -488,6 +488,10 @@ PARTS_AGAIN = [
         crashed(2**40 - 3, 2**40 - 2, AFTER),
     ],
 ]
+# ---- a log whose lines wait
+
+GROUP = LOGS[:-2]
+
 AGAIN = {
     "a cell": ("cell --index 0 --start", CONFIG, CELLS_AGAIN),
     "a log": ("log --epoch 513 --index 0 --logs 4 --degree 2", None, LOGS_AGAIN),

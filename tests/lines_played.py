@@ -27,6 +27,18 @@ def answers(words, given):
     return ran.stdout.split(b"\n")[:-1], (ran.returncode, ran.stderr)
 
 
+def answers_apart(words, given):
+    """The same, where each line is given once the one before is answered."""
+    pipes = {"stdin": subprocess.PIPE, "stdout": subprocess.PIPE, "stderr": subprocess.PIPE, "bufsize": 0}
+    it = subprocess.Popen(words, **pipes)
+    found = []
+    for each in given:
+        it.stdin.write(each + b"\n")
+        found.append(it.stdout.readline().rstrip(b"\n"))
+    rest, errors = it.communicate(timeout=PATIENCE)
+    return found + rest.split(b"\n")[:-1], (it.returncode, errors)
+
+
 def line(name, number, body):
     return text({"body": body | {"msg_id": number}, "dest": name, "src": "router"}).encode()
 
@@ -72,10 +84,11 @@ def by_hand(checks, command, is_exact, kinds=ALL, files=(False, True)):
 
 
 def played(checks, title, words, rows, is_exact):
-    """Gives a process the lines of some rows, and compares its answers."""
+    """Gives a process the lines of some rows, and compares its answers. A log takes its lines apart: of a group each
+    answer has the state behind the whole."""
     name = lines.NAMES[title]
     given = [line(name, number, body) for number, (body, _) in enumerate(rows)]
-    found, end = answers(words, given)
+    found, end = (answers_apart if name.startswith("log") else answers)(words, given)
     checks.check(end == (0, b"") and len(found) == len(rows), title, "ended with", end, len(found))
     for number, (it, (body, answer)) in enumerate(zip(found, rows)):
         wanted = {"body": answer | {"in_reply_to": number}, "dest": "router", "src": name}
@@ -91,6 +104,23 @@ def again(checks, command, is_exact, scripts):
             words_of = with_config([*command, *words.split(), "--dir", f"{room}/files"], config, room)
             for rows in processes:
                 played(checks, title, words_of, rows, is_exact)
+
+
+def together(checks, command):
+    """Lines that wait for a log over a file are one group: each entry is as if it stood alone, and the file is synced
+    twice for all of them."""
+    rows = lines.GROUP
+    with tempfile.TemporaryDirectory() as room:
+        words = [*command, "log", "--epoch", "513", "--index", "0", "--logs", "4", "--degree", "2", "--dir", room]
+        given = [line("log 513 0", number, body) for number, (body, _) in enumerate(rows)]
+        found, end = answers(words, given)
+        checks.check(end == (0, b"") and len(found) == len(rows), "a group ended with", end, len(found))
+        for number, (it, (body, answer)) in enumerate(zip(found, rows)):
+            its = json.loads(it)["body"]
+            is_so = its.get("entry") == answer.get("entry") and its.get("in_reply_to") == number
+            checks.check(is_so, "in a group", text(body), "answers", it, "and not", text(answer))
+        last = json.loads(found[-1])["body"].get("last")
+        checks.check(last == rows[-1][1]["last"], "behind a group it stands at", last)
 
 
 # ---- drawn

@@ -7,6 +7,7 @@ mod files;
 mod lines;
 mod nodes;
 mod serving;
+mod together;
 mod words;
 
 pub use fault::NodeEnd;

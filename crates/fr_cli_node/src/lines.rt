@@ -7,7 +7,7 @@ use std::alloc::Global;
 use std::io::{ErrorKind, Read};
 
 /// The most bytes that one read gives.
-const READ_SIZE: usize = 8192;
+const READ_SIZE: usize = 65_536;
 
 /// What a reader has next.
 #[derive(Debug, Drop)]
@@ -74,6 +74,37 @@ impl Lines {
             chunk: Vec::new(alloc),
             from: 0,
         }
+    }
+
+    /// The lines that wait, at most so many: the next one, for which this waits, and the whole ones behind it that were
+    /// read with it. None if there are no more.
+    pub(crate) fn waiting<R: Read>(
+        &mut self,
+        alloc: Global,
+        reader: &mut R,
+        most: usize,
+        count: usize,
+    ) -> Result<Vec<Found>, CliFault>
+        ensures fault { IfErr result (λ fault. (fault ≡ CliFault.Input) ⊎ (fault ≡ CliFault.Memory)) }
+    {
+        let mut all = Vec::new(alloc);
+        for _turn in 0..count {
+            if !all.is_empty() && !self.has_whole() {
+                break;
+            }
+            match self.next(alloc, reader, most)? {
+                Found::End => break,
+                found => all.push(found)?,
+            }
+        }
+        Ok(all)
+    }
+
+    /// Whether a whole line was read that is not given out.
+    fn has_whole(&self) -> bool {
+        self.chunk.as_slice()[self.from..]
+            .iter()
+            .any(|byte| *byte == b'\n')
     }
 
     /// The next line, of at most so many bytes. What follows the last end of a line is a line too.

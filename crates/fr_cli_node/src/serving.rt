@@ -8,9 +8,10 @@ ghost use Rattle.fr_node.specs.Answers.{IsAnswer};
 
 use crate::fault::NodeEnd;
 use crate::lines::{Found, Lines};
-use fr_base::{Memory, NodeId};
+use fr_audit_journal::Entry;
+use fr_base::{Memory, NodeId, Stamp};
 use fr_cli_json::{CallCounts, CliFault, put_bytes};
-use fr_node::{Acting, Crash, NodeReply, NodeRequest, NodeTurnFault, answer};
+use fr_node::{Acting, Crash, Kind, NodeReply, NodeRequest, NodeTurn, NodeTurnFault, answer};
 use fr_node_lines::{BadLine, Envelope, Line, LineFault, read_line, write_error, write_reply};
 use std::alloc::Global;
 use std::io::{Read, Write};
@@ -18,9 +19,12 @@ use std::io::{Read, Write};
 /// The most bytes that a line may have: a batch at its limits fits.
 pub const MAX_LINE: usize = 268_435_456;
 
-/// Serves lines to the end of the input, each of at most so many bytes: reads one, answers it, and flushes the answer
-/// before it reads the next. A line that is not done is answered with the reason. A node that cannot go on says so in
-/// its answer, and serves no more.
+/// So many lines are answered together at most.
+const TOGETHER: usize = 64;
+
+/// Serves lines to the end of the input, each of at most so many bytes: reads those that wait, answers them, and flushes
+/// the answers before it reads more. A line that is not done is answered with the reason. A node that cannot go on says
+/// so in its answer, and serves no more.
 pub fn serve<T: Acting, R: Read, W: Write>(
     alloc: Global,
     most: usize,
@@ -56,25 +60,181 @@ pub fn serve_counted<T: Acting, R: Read, W: Write>(
     ensures done { OnOk result (calls.new.failed_writes ≡ 0) }
 {
     let mut lines = Lines::new(alloc);
-    for _line in 0..u64::MAX {
-        let found = match lines.next(alloc, reader, most) {
+    for _turn in 0..u64::MAX {
+        let found = match lines.waiting(alloc, reader, most, TOGETHER) {
             Ok(found) => found,
             Err(fault) => return Err(unread(fault)),
         };
-        let line = match found {
-            Found::End => return Ok(()),
-            Found::TooLong => Line::bad(BadLine::TooLong),
-            Found::Line(text) => read_line(alloc, node.place(), text.as_slice()),
-        };
-        let Line { envelope, order } = line;
-        let done = do_line(alloc, node, order);
-        let crash = crash_of(&done);
-        put_answer(alloc, calls, node.place(), &envelope, done, writer)?;
+        if found.is_empty() {
+            return Ok(());
+        }
+        let mut text = Vec::new(alloc);
+        let crash = answer_lines(alloc, node, found, &mut text)?;
+        put_text(calls, writer, text.as_slice())?;
         if let Some(crash) = crash {
             return Err(NodeEnd::Crashed(crash));
         }
     }
     Ok(())
+}
+
+/// Answers lines in their order, and says why the node cannot go on, if it cannot. Asks that may stand in one group are
+/// served as one.
+fn answer_lines<T: Acting>(
+    alloc: Global,
+    node: &mut T,
+    found: Vec<Found>,
+    text: &mut Vec<u8>,
+) -> Result<Option<Crash>, NodeEnd> {
+    let mut group = Group::new(alloc);
+    for found in found {
+        let line = match found {
+            Found::End => continue,
+            Found::TooLong => Line::bad(BadLine::TooLong),
+            Found::Line(its) => read_line(alloc, node.place(), its.as_slice()),
+        };
+        let Line { envelope, order } = line;
+        match order {
+            Ok(NodeRequest::Take { at, turn, is_whole }) => {
+                if !group.may_take(node, &turn) {
+                    if let Some(crash) = group.serve(alloc, node, text)? {
+                        return Ok(Some(crash));
+                    }
+                }
+                group.put((envelope, is_whole), (at, turn))?;
+            }
+            order => {
+                if let Some(crash) = group.serve(alloc, node, text)? {
+                    return Ok(Some(crash));
+                }
+                if let Some(crash) = answer_one(alloc, node, &envelope, order, text)? {
+                    return Ok(Some(crash));
+                }
+            }
+        }
+    }
+    group.serve(alloc, node, text)
+}
+
+/// Answers one line.
+fn answer_one<T: Acting>(
+    alloc: Global,
+    node: &mut T,
+    envelope: &Envelope,
+    order: Result<NodeRequest, BadLine>,
+    text: &mut Vec<u8>,
+) -> Result<Option<Crash>, NodeEnd> {
+    let done = do_line(alloc, node, order);
+    let crash = crash_of(&done);
+    add_answer(alloc, node.place(), envelope, done, text)?;
+    Ok(crash)
+}
+
+/// Adds the text of an answer.
+fn add_answer(
+    alloc: Global,
+    place: NodeId,
+    envelope: &Envelope,
+    done: Result<NodeReply, LineFault>,
+    text: &mut Vec<u8>,
+) -> Result<(), NodeEnd> {
+    let Ok(its) = text_of(alloc, place, envelope, done) else {
+        return Err(NodeEnd::Crashed(Crash::Memory));
+    };
+    if text.extend_from_slice(its.as_slice()).is_err() {
+        return Err(NodeEnd::Crashed(Crash::Memory));
+    }
+    Ok(())
+}
+
+/// Turns that may be taken as one group, each with who sent it and whether the whole state is asked for.
+#[derive(Drop)]
+struct Group {
+    senders: Vec<(Envelope, bool)>,
+    turns: Vec<(Stamp, NodeTurn)>,
+}
+
+impl Group {
+    fn new(alloc: Global) -> Self {
+        Group {
+            senders: Vec::new(alloc),
+            turns: Vec::new(alloc),
+        }
+    }
+
+    /// Whether a turn may stand behind those that are there.
+    fn may_take<T: Acting>(&self, node: &T, turn: &NodeTurn) -> bool {
+        match self.turns.as_slice().last() {
+            Some((_, last)) => node.may_join(last, turn),
+            None => true,
+        }
+    }
+
+    fn put(&mut self, sender: (Envelope, bool), turn: (Stamp, NodeTurn)) -> Result<(), NodeEnd> {
+        self.senders.push(sender)?;
+        self.turns.push(turn)?;
+        Ok(())
+    }
+
+    /// Has a node take the turns, as one group if it takes them so, and else one after another. Then none is left.
+    fn serve<T: Acting>(
+        &mut self,
+        alloc: Global,
+        node: &mut T,
+        text: &mut Vec<u8>,
+    ) -> Result<Option<Crash>, NodeEnd> {
+        let senders = std::mem::replace(&mut self.senders, Vec::new(alloc));
+        let turns = std::mem::replace(&mut self.turns, Vec::new(alloc));
+        if turns.len() > 1 {
+            match node.act_all(alloc, turns.as_slice()) {
+                Ok(Some(entries)) => return say_all(alloc, node, senders, entries, text),
+                Ok(None) => {}
+                Err(crash) => return Ok(Some(crash)),
+            }
+        }
+        let mut senders = senders.into_iter();
+        for (at, turn) in turns {
+            let Some((envelope, is_whole)) = senders.next() else {
+                unreachable!();
+            };
+            let order = Ok(NodeRequest::Take { at, turn, is_whole });
+            if let Some(crash) = answer_one(alloc, node, &envelope, order, text)? {
+                return Ok(Some(crash));
+            }
+        }
+        Ok(None)
+    }
+}
+
+/// Answers the lines of a group that was taken: each by its entry, and by where the node stands behind all of it.
+fn say_all<T: Acting>(
+    alloc: Global,
+    node: &mut T,
+    senders: Vec<(Envelope, bool)>,
+    entries: Vec<Entry>,
+    text: &mut Vec<u8>,
+) -> Result<Option<Crash>, NodeEnd> {
+    let mut senders = senders.into_iter();
+    for entry in entries {
+        let Some((envelope, is_whole)) = senders.next() else {
+            unreachable!();
+        };
+        let done = match node.stand(alloc, is_whole) {
+            Ok(stand) => Ok(NodeReply::Taken {
+                kind: Kind::Ask,
+                entry,
+                stand,
+                wants: None,
+            }),
+            Err(fault) => Err(LineFault::Turn(fault)),
+        };
+        let crash = crash_of(&done);
+        add_answer(alloc, node.place(), &envelope, done, text)?;
+        if crash.is_some() {
+            return Ok(crash);
+        }
+    }
+    Ok(None)
 }
 
 /// Why a reader gives no line.
@@ -134,24 +294,6 @@ fn text_of(
         Ok(reply) => write_reply(alloc, place, envelope, &reply),
         Err(fault) => write_error(alloc, place, envelope, fault),
     }
-}
-
-/// Writes an answer, and flushes it. If there is no memory for its text, the process ends.
-fn put_answer<W: Write>(
-    alloc: Global,
-    calls: &mut CallCounts,
-    place: NodeId,
-    envelope: &Envelope,
-    done: Result<NodeReply, LineFault>,
-    writer: &mut W,
-) -> Result<(), NodeEnd>
-    ensures fault { IfErr result (IsPutFault calls.new) }
-    ensures done { OnOk result (calls.new ≡ calls.old) }
-{
-    let Ok(text) = text_of(alloc, place, envelope, done) else {
-        return Err(NodeEnd::Crashed(Crash::Memory));
-    };
-    put_text(calls, writer, text.as_slice())
 }
 
 /// Writes a text, and flushes it.

@@ -1,5 +1,6 @@
 pub mod Kinds
 pub mod Stands
+pub mod Groups
 pub mod Courses
 pub mod Faults
 pub mod Turns

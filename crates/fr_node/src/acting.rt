@@ -1,9 +1,11 @@
 //! Nodes that a process serves.
-ghost use Rattle.std.specs.Prelude.{◌≡◌, ◌++◌, true, IfOk, OnOk};
+ghost use Rattle.std.specs.Prelude.{◌≡◌, ◌++◌, true, None, Ok, IfErr, IfOk, IfSome, OnErr, OnOk};
+ghost use Rattle.fr_audit_journal.specs.Housing.{last_number};
+ghost use Rattle.fr_node.specs.Groups.{AreTaken};
 ghost use Rattle.fr_node.specs.Stands.{stand_of};
 ghost use Rattle.fr_node.specs.Turns.{IfCrashed, IfRefused, IsBack, IsTaken, Refuses, RefusesFor, UnlessCrashed};
 
-use crate::fault::NodeTurnFault;
+use crate::fault::{Crash, NodeTurnFault};
 use crate::stand::{Stand, stand_from};
 use crate::turn::{Hearing, NodeTurn, Round};
 use crate::wants::Wants;
@@ -78,6 +80,31 @@ pub trait Acting {
         ensures left { IfRefused result (entries self.new ≡ entries self.old) }
         ensures stands { IfRefused result (last_of self.new ≡ last_of self.old) }
         ensures crashed { IfCrashed result CanCrash };
+
+    /// Whether a turn may stand in one group with those before it, of which this is the last: told again after all of the
+    /// group was taken, each of them is told the same. So a process may be killed when only some of it is answered.
+    fn may_join(&self, _last: &NodeTurn, _turn: &NodeTurn) -> bool {
+        false
+    }
+
+    /// Takes turns, each above the stamp that came with it, as one group, and answers what is entered of each: as if
+    /// each had been taken alone, in this order. None: they are not taken as a group, and nothing was done.
+    fn act_all(
+        &mut self,
+        _alloc: Global,
+        _turns: &[(Stamp, NodeTurn)],
+    ) -> Result<Option<Vec<Entry>>, Crash>
+        requires works { works self.old ≡ true }
+        ensures node { node self.new ≡ node self.old }
+        ensures taken { IfOk result (λ took. IfSome took (λ answered. (entries self.new ≡ entries self.old ++ answered.items)
+            × AreTaken (last_number (entries self.old)) _turns.now answered.items)) }
+        ensures none { result ≡ Ok None → (entries self.new ≡ entries self.old) × (last_of self.new ≡ last_of self.old) }
+        ensures err { OnErr result (entries self.new ≡ entries self.old) }
+        ensures works { OnOk result (works self.new ≡ true) }
+        ensures crashed { IfErr result CanCrash }
+    {
+        Ok(None)
+    }
 
     /// Enters that its process was killed and started again over its files, above the stamp that the asker has seen.
     /// `hearing` is the hear that was under way, if one was. It answers the entries: what it took of that hear, if it

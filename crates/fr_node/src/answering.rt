@@ -13,6 +13,12 @@ pub trait Answering: Housable {
     fn unwrap(ask: Ask) -> Option<Self::Ask>
         ensures value { result ≡ Self.unwrapped ask }
         ensures back { IfSome result (λ own. Self.wrapped own ≡ ask) };
+
+    /// Whether an ask may stand behind this one in a group: each of a group is told the same again once all of it was
+    /// taken. A log's pushes in the order of their versions are, and reads behind them.
+    fn may_join(_last: &Ask, _ask: &Ask) -> bool {
+        false
+    }
 }
 
 impl Answering for Cell {
@@ -33,6 +39,23 @@ impl Answering for Log {
             Ask::Seq(_) => None,
         }
     }
+
+    fn may_join(last: &Ask, ask: &Ask) -> bool {
+        match (last, ask) {
+            (Ask::Log(LogAsk::Push(last)), Ask::Log(LogAsk::Push(push))) => last.version()
+                < push.version(),
+            (Ask::Log(last), Ask::Log(ask)) => is_read(ask) && (is_read(last) || is_push(last)),
+            _ => false,
+        }
+    }
+}
+
+fn is_push(ask: &LogAsk) -> bool {
+    matches!(ask, LogAsk::Push(_))
+}
+
+fn is_read(ask: &LogAsk) -> bool {
+    matches!(ask, LogAsk::Peek { .. } | LogAsk::MarkAsked { .. })
 }
 
 impl Answering for Sequencer {

@@ -9,21 +9,22 @@ ghost use Rattle.fr_node.specs.Turns.{IfCrashed, IsBack, RefusesFor};
 use crate::acting::Acting;
 use crate::answering::Answering;
 use crate::course::Course;
-use crate::fault::{NodeTurnFault, TurnRefusal};
+use crate::fault::{Crash, NodeTurnFault, TurnRefusal};
+use crate::groups::Groups;
 use crate::stamps::stamp_above;
 use crate::turn::{Hearing, NodeTurn, Round};
 use crate::wants::Wants;
-use fr_ask::{Last, Named};
+use fr_ask::{Ask, Last, Named};
 use fr_audit_journal::{Act, Entry, Housable};
-use fr_base::{Bytes, Machine, Memory, Node, NodeId, Stamp, Version};
+use fr_base::{Bytes, Machine, Memory, Node, NodeFault, NodeId, Stamp, Version};
 use std::alloc::Global;
-use std::marker::Model;
+use std::marker::{Model, PhantomData};
 use std::snapshot::Snapshot;
 
 /// A cell, a log or a sequencer, with its course. Contracts see the node, its name, the state in which its process
 /// found it, and what it did since.
 #[derive(Drop)]
-pub struct Passive<N: Node>
+pub struct Passive<N: Node, G: Groups<N>>
 where
     N::Plain: Answering,
 {
@@ -31,9 +32,10 @@ where
     course: Course,
     first: Snapshot<N::Plain>,
     has_files: bool,
+    groups: PhantomData<G>,
 }
 
-impl<N: Node> Model for Passive<N>
+impl<N: Node, G: Groups<N>> Model for Passive<N, G>
 where
     N::Plain: Answering,
 {
@@ -50,7 +52,7 @@ where
         × (p.has_files ≡ true → ends_by_crash p.course.node ≡ false) };
 }
 
-impl<N: Node> Passive<N>
+impl<N: Node, G: Groups<N>> Passive<N, G>
 where
     N::Plain: Answering,
     <N::Plain as Machine>::Ask: Drop,
@@ -71,6 +73,7 @@ where
             course: Course::new(alloc, id),
             first,
             has_files,
+            groups: PhantomData,
         }
     }
 
@@ -84,6 +87,49 @@ where
         let _rise = self.course.last_stamp();
         &self.course
     }
+}
+
+/// The asks of turns, if each is one of the machine's own.
+fn own_asks<M: Answering>(
+    alloc: Global,
+    turns: &[(Stamp, NodeTurn)],
+) -> Result<Option<Vec<M::Ask>>, Crash>
+where
+    M::Ask: Drop,
+{
+    let mut asks = Vec::with_capacity(alloc, turns.len()).map_err(|_| Crash::Memory)?;
+    for (_, turn) in turns {
+        let NodeTurn::Ask { ask, .. } = turn else {
+            return Ok(None);
+        };
+        let copy: Ask = ask.copy().map_err(|_| Crash::Memory)?;
+        let Some(own) = M::unwrap(copy) else {
+            return Ok(None);
+        };
+        asks.push(own).map_err(|_| Crash::Memory)?;
+    }
+    Ok(Some(asks))
+}
+
+/// A stamp for each of some turns, above those of a course and of the turns; none if there are not so many.
+fn stamps_of(
+    alloc: Global,
+    course: &Course,
+    turns: &[(Stamp, NodeTurn)],
+) -> Result<Option<Vec<Stamp>>, Crash> {
+    let mut stamps = Vec::with_capacity(alloc, turns.len()).map_err(|_| Crash::Memory)?;
+    let mut last = match course.last_stamp() {
+        Some(last) => last.get(),
+        None => 0,
+    };
+    for (at, _) in turns {
+        let Some(stamp) = Stamp::new(last.max(at.get()).saturating_add(1)) else {
+            return Ok(None);
+        };
+        last = stamp.get();
+        stamps.push(stamp).map_err(|_| Crash::Memory)?;
+    }
+    Ok(Some(stamps))
 }
 
 /// Enters that a node crashed, and was started again over its files.
@@ -134,7 +180,7 @@ pub fn crash_at(stamp: Stamp) -> Entry
     }
 }
 
-impl<N: Node> Acting for Passive<N>
+impl<N: Node, G: Groups<N>> Acting for Passive<N, G>
 where
     N::Plain: Answering,
     <N::Plain as Machine>::Ask: Drop,
@@ -195,6 +241,67 @@ where
         };
         self.course.enter(&entry);
         Ok(entry)
+    }
+
+    fn may_join(&self, last: &NodeTurn, turn: &NodeTurn) -> bool {
+        match (last, turn) {
+            (NodeTurn::Ask { ask: last, .. }, NodeTurn::Ask { ask, .. }) => N::Plain::may_join(
+                last, ask,
+            ),
+            _ => false,
+        }
+    }
+
+    fn act_all(
+        &mut self,
+        alloc: Global,
+        turns: &[(Stamp, NodeTurn)],
+    ) -> Result<Option<Vec<Entry>>, Crash> {
+        let Some(asks) = own_asks::<N::Plain>(alloc, turns)? else {
+            return Ok(None);
+        };
+        let Some(stamps) = stamps_of(alloc, &self.course, turns)? else {
+            return Ok(None);
+        };
+        let mut entries = Vec::with_capacity(alloc, turns.len()).map_err(|_| Crash::Memory)?;
+        self.course
+            .reserve_all(turns.len())
+            .map_err(|_| Crash::Memory)?;
+        let mut froms = Vec::with_capacity(alloc, turns.len()).map_err(|_| Crash::Memory)?;
+        for (_, turn) in turns {
+            if let NodeTurn::Ask { from, ask } = turn {
+                froms
+                    .push((*from, ask.copy().map_err(|_| Crash::Memory)?))
+                    .map_err(|_| Crash::Memory)?;
+            }
+        }
+        let tells = match G::serve_all(&mut self.node, alloc, asks) {
+            None => return Ok(None),
+            Some(Err(NodeFault::Full)) => return Ok(None),
+            Some(Err(NodeFault::Memory)) => return Err(Crash::Memory),
+            Some(Err(NodeFault::Broken)) => return Err(Crash::Broken),
+            Some(Err(NodeFault::Device)) => return Err(Crash::Device),
+            Some(Err(NodeFault::Failed)) => return Err(Crash::Device),
+            Some(Ok(tells)) => tells,
+        };
+        let mut stamps = stamps.into_iter();
+        let mut froms = froms.into_iter();
+        for tell in tells {
+            let (Some(stamp), Some((from, ask))) = (stamps.next(), froms.next()) else {
+                unreachable!();
+            };
+            let taken = Entry {
+                stamp,
+                act: Act::Asked {
+                    from,
+                    ask,
+                    tell: N::Plain::wrap_tell(tell),
+                },
+            };
+            self.course.enter(&taken);
+            entries.push(taken).map_err(|_| Crash::Memory)?;
+        }
+        Ok(Some(entries))
     }
 
     fn back(
