@@ -488,9 +488,37 @@ PARTS_AGAIN = [
         crashed(2**40 - 3, 2**40 - 2, AFTER),
     ],
 ]
-# ---- a log whose lines wait
+# ---- a log whose lines wait, and numbers that are too far ahead
 
 GROUP = LOGS[:-2]
+AHEAD_CELLS = [
+    begins(CELL, cell(257, 257, ONE)),
+    # (two rounds ahead of round 1, and no more)
+    fault({"type": "ask", "at": 5, "from": RECOVERER, "ask": read(1025)}, 14, "TooFar"),
+    asked(5, RECOVERER, read(1023), 6, {"cell": {"promise": {"value": ONE, "written": 257}}}, cell(1023, 257, ONE)),
+    fault({"type": "ask", "at": 9, "from": RECOVERER, "ask": read(1024)}, 14, "TooFar"),
+    fault({"type": "ask", "at": 8, "from": RECOVERER, "ask": write(1536, TWO)}, 14, "TooFar"),
+    asked(8, RECOVERER, write(1535, TWO), 9, {"cell": {"written": {"ballot": 1535}}}, cell(1535, 1535, TWO)),
+    is_last(cell(1535, 1535, TWO)),
+]
+FAR = 2**48 - 1
+AHEAD_CELL = [
+    begins(CELL, cell(257, 257, ONE)),
+    fault({"type": "ask", "at": 5, "from": RECOVERER, "ask": read(FAR)}, 14, "TooFar"),
+    asked(5, RECOVERER, read(513), 6, {"cell": {"promise": {"value": ONE, "written": 257}}}, cell(513, 257, ONE)),
+    fault({"type": "ask", "at": 2**40 - 2, "from": RECOVERER, "ask": read(513)}, 14, "TooFar"),
+    is_last(cell(513, 257, ONE)),
+]
+AHEAD_STORAGES = [
+    begins(STORAGE, stands(257, 0, 0)),
+    fault(heard(5, log(257, 0), peeked(0, 2**62 - 1, 3, (2, BATCH), (3, SET)), 6, stands(257, 0, 0))[0], 14, "TooFar"),
+    heard(5, log(257, 0), peeked(0, 2**52, 3, (2, BATCH), (3, SET)), 6, stands(257, 3, 3, k61="02")),
+]
+AHEAD = {
+    "a cell, two rounds ahead": ("cell --index 0 --start --most-ahead 2", CONFIG, AHEAD_CELLS),
+    "a cell far ahead": ("cell --index 0 --start", CONFIG, AHEAD_CELL),
+    "a storage server far ahead": ("storage --tag 0", CONFIG, AHEAD_STORAGES),
+}
 
 AGAIN = {
     "a cell": ("cell --index 0 --start", CONFIG, CELLS_AGAIN),
@@ -525,4 +553,7 @@ NAMES = {
     "that of the last shard": "storage 1",
     "a log of the first epoch": "log 257 1",
     "parts of hears": "storage 0",
+    "a cell, two rounds ahead": "cell 0",
+    "a cell far ahead": "cell 0",
+    "a storage server far ahead": "storage 0",
 }

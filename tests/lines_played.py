@@ -123,6 +123,13 @@ def together(checks, command):
         checks.check(last == rows[-1][1]["last"], "behind a group it stands at", last)
 
 
+def ahead(checks, command):
+    """Numbers that are too far ahead are refused, and change nothing."""
+    for title, (words, config, rows) in lines.AHEAD.items():
+        with tempfile.TemporaryDirectory() as room:
+            played(checks, title, with_config([*command, *words.split()], config, room), rows, True)
+
+
 # ---- drawn
 
 

@@ -11,7 +11,9 @@ use crate::lines::{Found, Lines};
 use fr_audit_journal::Entry;
 use fr_base::{Memory, NodeId, Stamp};
 use fr_cli_json::{CallCounts, CliFault, put_bytes};
-use fr_node::{Acting, Crash, Kind, NodeReply, NodeRequest, NodeTurn, NodeTurnFault, answer};
+use fr_node::{
+    Acting, Crash, Kind, NodeReply, NodeRequest, NodeTurn, NodeTurnFault, answer, is_ahead,
+};
 use fr_node_lines::{BadLine, Envelope, Line, LineFault, read_line, write_error, write_reply};
 use std::alloc::Global;
 use std::io::{Read, Write};
@@ -24,11 +26,12 @@ const TOGETHER: usize = 64;
 
 /// Serves lines to the end of the input, each of at most so many bytes: reads those that wait, answers them, and flushes
 /// the answers before it reads more. A line that is not done is answered with the reason. A node that cannot go on says
-/// so in its answer, and serves no more.
+/// so in its answer, and serves no more. A turn whose numbers are further ahead than `ahead` is refused.
 pub fn serve<T: Acting, R: Read, W: Write>(
     alloc: Global,
     most: usize,
     node: &mut T,
+    ahead: u64,
     reader: &mut R,
     writer: &mut W,
 ) -> Result<(), NodeEnd>
@@ -38,7 +41,7 @@ pub fn serve<T: Acting, R: Read, W: Write>(
     ensures crashed { IfErr result (EndsBy T.CanCrash) }
 {
     let mut calls = CallCounts::new();
-    serve_counted(alloc, most, &mut calls, node, reader, writer)
+    serve_counted(alloc, most, &mut calls, node, ahead, reader, writer)
 }
 
 /// As [`serve`], with the calls of the writer counted in `calls`, which has none yet: `Output` is answered only if a
@@ -48,6 +51,7 @@ pub fn serve_counted<T: Acting, R: Read, W: Write>(
     most: usize,
     calls: &mut CallCounts,
     node: &mut T,
+    ahead: u64,
     reader: &mut R,
     writer: &mut W,
 ) -> Result<(), NodeEnd>
@@ -69,7 +73,7 @@ pub fn serve_counted<T: Acting, R: Read, W: Write>(
             return Ok(());
         }
         let mut text = Vec::new(alloc);
-        let crash = answer_lines(alloc, node, found, &mut text)?;
+        let crash = answer_lines(alloc, node, ahead, found, &mut text)?;
         put_text(calls, writer, text.as_slice())?;
         if let Some(crash) = crash {
             return Err(NodeEnd::Crashed(crash));
@@ -83,6 +87,7 @@ pub fn serve_counted<T: Acting, R: Read, W: Write>(
 fn answer_lines<T: Acting>(
     alloc: Global,
     node: &mut T,
+    ahead: u64,
     found: Vec<Found>,
     text: &mut Vec<u8>,
 ) -> Result<Option<Crash>, NodeEnd> {
@@ -97,34 +102,35 @@ fn answer_lines<T: Acting>(
         match order {
             Ok(NodeRequest::Take { at, turn, is_whole }) => {
                 if !group.may_take(node, &turn) {
-                    if let Some(crash) = group.serve(alloc, node, text)? {
+                    if let Some(crash) = group.serve(alloc, node, ahead, text)? {
                         return Ok(Some(crash));
                     }
                 }
                 group.put((envelope, is_whole), (at, turn))?;
             }
             order => {
-                if let Some(crash) = group.serve(alloc, node, text)? {
+                if let Some(crash) = group.serve(alloc, node, ahead, text)? {
                     return Ok(Some(crash));
                 }
-                if let Some(crash) = answer_one(alloc, node, &envelope, order, text)? {
+                if let Some(crash) = answer_one(alloc, node, ahead, &envelope, order, text)? {
                     return Ok(Some(crash));
                 }
             }
         }
     }
-    group.serve(alloc, node, text)
+    group.serve(alloc, node, ahead, text)
 }
 
 /// Answers one line.
 fn answer_one<T: Acting>(
     alloc: Global,
     node: &mut T,
+    ahead: u64,
     envelope: &Envelope,
     order: Result<NodeRequest, BadLine>,
     text: &mut Vec<u8>,
 ) -> Result<Option<Crash>, NodeEnd> {
-    let done = do_line(alloc, node, order);
+    let done = do_line(alloc, node, ahead, order);
     let crash = crash_of(&done);
     add_answer(alloc, node.place(), envelope, done, text)?;
     Ok(crash)
@@ -181,11 +187,14 @@ impl Group {
         &mut self,
         alloc: Global,
         node: &mut T,
+        ahead: u64,
         text: &mut Vec<u8>,
     ) -> Result<Option<Crash>, NodeEnd> {
         let senders = std::mem::replace(&mut self.senders, Vec::new(alloc));
         let turns = std::mem::replace(&mut self.turns, Vec::new(alloc));
-        if turns.len() > 1 {
+        let reach = node.reach();
+        let is_near = |turn: &(Stamp, NodeTurn)| !is_ahead(ahead, &reach, turn.0, &turn.1);
+        if turns.len() > 1 && turns.iter().all(is_near) {
             match node.act_all(alloc, turns.as_slice()) {
                 Ok(Some(entries)) => return say_all(alloc, node, senders, entries, text),
                 Ok(None) => {}
@@ -198,7 +207,7 @@ impl Group {
                 unreachable!();
             };
             let order = Ok(NodeRequest::Take { at, turn, is_whole });
-            if let Some(crash) = answer_one(alloc, node, &envelope, order, text)? {
+            if let Some(crash) = answer_one(alloc, node, ahead, &envelope, order, text)? {
                 return Ok(Some(crash));
             }
         }
@@ -248,6 +257,7 @@ fn unread(fault: CliFault) -> NodeEnd
 fn do_line<T: Acting>(
     alloc: Global,
     node: &mut T,
+    ahead: u64,
     order: Result<NodeRequest, BadLine>,
 ) -> Result<NodeReply, LineFault>
     requires works { T.works node.old ≡ true }
@@ -262,7 +272,7 @@ fn do_line<T: Acting>(
     ensures crashed { IfSome (crash_in result) (λ why. IsEnd T.CanCrash why) }
 {
     match order {
-        Ok(order) => match answer(alloc, node, order) {
+        Ok(order) => match answer(alloc, node, order, ahead) {
             Ok(reply) => Ok(reply),
             Err(fault) => Err(LineFault::Turn(fault)),
         },

@@ -5,9 +5,17 @@ use fr_base::{Ballot, Epoch, LogId, Shape, Tag, Version};
 use fr_cli_apply::bad_words;
 use std::alloc::{AllocError, Global};
 
-/// Which node the words name, and how it begins.
+/// Which node the words name, and how far ahead numbers may be that it follows: so many rounds, stamps, or versions of so
+/// many commits.
 #[derive(Debug, Drop, PartialEq, Eq)]
-pub enum NodeWords {
+pub struct NodeWords {
+    pub node: KindWords,
+    pub most_ahead: u64,
+}
+
+/// A kind of node, and how it begins.
+#[derive(Debug, Drop, PartialEq, Eq)]
+pub enum KindWords {
     /// A coordinator's cell: with a config as its world starts with it, else fresh. With a folder it keeps a file
     /// there, else it is in memory.
     Cell {
@@ -82,7 +90,8 @@ fn cell_command<'a>(alloc: Global) -> Result<Command<'a>, Error> {
         .arg(few(alloc, "index", "Its number, 0 to 8", 0, 8).required(true))?
         .arg(config_word(alloc).help("The file that holds the config of the world, with --start"))?
         .arg(folder_word(alloc))?
-        .arg(start_word(alloc))?;
+        .arg(start_word(alloc))?
+        .arg(ahead_word(alloc))?;
     Ok(cell)
 }
 
@@ -101,7 +110,8 @@ fn log_command<'a>(alloc: Global) -> Result<Command<'a>, Error> {
         )
         .required(true))?
         .arg(folder_word(alloc))?
-        .arg(start_word(alloc))?;
+        .arg(start_word(alloc))?
+        .arg(ahead_word(alloc))?;
     Ok(log)
 }
 
@@ -114,7 +124,8 @@ fn sequencer_command<'a>(alloc: Global) -> Result<Command<'a>, Error> {
             "last",
             "The version that it begins from, that of the mark",
         )
-        .required(true))?;
+        .required(true))?
+        .arg(ahead_word(alloc))?;
     Ok(sequencer)
 }
 
@@ -123,7 +134,8 @@ fn storage_command<'a>(alloc: Global) -> Result<Command<'a>, Error> {
         .about("A storage server")
         .arg(few(alloc, "tag", "Its tag, 0 to 31", 0, 31).required(true))?
         .arg(config_word(alloc).required(true))?
-        .arg(folder_word(alloc))?;
+        .arg(folder_word(alloc))?
+        .arg(ahead_word(alloc))?;
     Ok(storage)
 }
 
@@ -152,7 +164,8 @@ fn proxy_command<'a>(alloc: Global) -> Result<Command<'a>, Error> {
             1,
             16,
         ))?
-        .arg(config_word(alloc).required(true))?;
+        .arg(config_word(alloc).required(true))?
+        .arg(ahead_word(alloc))?;
     Ok(proxy)
 }
 
@@ -174,7 +187,8 @@ fn recoverer_command<'a>(alloc: Global) -> Result<Command<'a>, Error> {
             1,
             16,
         ))?
-        .arg(config_word(alloc).required(true))?;
+        .arg(config_word(alloc).required(true))?
+        .arg(ahead_word(alloc))?;
     Ok(recoverer)
 }
 
@@ -222,6 +236,14 @@ fn read_folder(alloc: Global, matches: &ArgMatches<'_>) -> Result<Option<String>
     }
 }
 
+fn ahead_word<'a>(alloc: Global) -> Arg<'a> {
+    number(
+        alloc,
+        "most-ahead",
+        "How far ahead numbers may be that it follows, in rounds, stamps and commits: 2^32 if it is not said",
+    )
+}
+
 fn start_word<'a>(alloc: Global) -> Arg<'a> {
     Arg::new(alloc, "start")
         .long("start")
@@ -234,7 +256,10 @@ fn start_word<'a>(alloc: Global) -> Arg<'a> {
 /// one of its start and its config.
 pub fn read_node_words(alloc: Global, matches: &ArgMatches<'_>) -> Result<NodeWords, Error> {
     match read_kind(alloc, matches)? {
-        Some(words) => Ok(words),
+        Some(node) => Ok(NodeWords {
+            node,
+            most_ahead: read_ahead(matches),
+        }),
         None => {
             let message =
                 "a number is beyond its limits, or a word is there without the one that goes with it";
@@ -244,7 +269,17 @@ pub fn read_node_words(alloc: Global, matches: &ArgMatches<'_>) -> Result<NodeWo
     }
 }
 
-fn read_kind(alloc: Global, matches: &ArgMatches<'_>) -> Result<Option<NodeWords>, AllocError> {
+/// How far ahead numbers may be: 2^32, if no word says it.
+fn read_ahead(matches: &ArgMatches<'_>) -> u64 {
+    for kind in KINDS {
+        if let Some(words) = matches.subcommand_matches(kind) {
+            return words.get_one::<u64>("most-ahead").unwrap_or(MOST_AHEAD);
+        }
+    }
+    MOST_AHEAD
+}
+
+fn read_kind(alloc: Global, matches: &ArgMatches<'_>) -> Result<Option<KindWords>, AllocError> {
     if let Some(cell) = matches.subcommand_matches("cell") {
         return read_cell(alloc, cell);
     }
@@ -282,7 +317,7 @@ fn read_shape(matches: &ArgMatches<'_>) -> Option<Option<Shape>> {
 }
 
 /// A cell is as a world starts with it if both its config and `start` are there.
-fn read_cell(alloc: Global, matches: &ArgMatches<'_>) -> Result<Option<NodeWords>, AllocError> {
+fn read_cell(alloc: Global, matches: &ArgMatches<'_>) -> Result<Option<KindWords>, AllocError> {
     let index = matches.get_one::<u8>("index").unwrap_or(0);
     let folder = read_folder(alloc, matches)?;
     let config = match matches.get_str("config") {
@@ -290,7 +325,7 @@ fn read_cell(alloc: Global, matches: &ArgMatches<'_>) -> Result<Option<NodeWords
         None => None,
     };
     if config.is_some() == matches.get_flag("start") {
-        Ok(Some(NodeWords::Cell {
+        Ok(Some(KindWords::Cell {
             index,
             config,
             folder,
@@ -300,12 +335,12 @@ fn read_cell(alloc: Global, matches: &ArgMatches<'_>) -> Result<Option<NodeWords
     }
 }
 
-fn read_log(alloc: Global, matches: &ArgMatches<'_>) -> Result<Option<NodeWords>, AllocError> {
+fn read_log(alloc: Global, matches: &ArgMatches<'_>) -> Result<Option<KindWords>, AllocError> {
     let folder = read_folder(alloc, matches)?;
     let index = matches.get_one::<u8>("index").unwrap_or(0);
     let is_started = matches.get_flag("start");
     match (read_epoch(matches), read_shape(matches)) {
-        (Some(epoch), Some(Some(shape))) if index < shape.m() => Ok(Some(NodeWords::Log(
+        (Some(epoch), Some(Some(shape))) if index < shape.m() => Ok(Some(KindWords::Log(
             LogWords {
                 id: LogId { epoch, index },
                 shape,
@@ -325,8 +360,8 @@ fn read_version(matches: &ArgMatches<'_>, name: &str) -> Option<Version> {
     Version::new(matches.get_one::<u64>(name).unwrap_or(u64::MAX))
 }
 
-fn read_sequencer(matches: &ArgMatches<'_>) -> Option<NodeWords> {
-    Some(NodeWords::Sequencer {
+fn read_sequencer(matches: &ArgMatches<'_>) -> Option<KindWords> {
+    Some(KindWords::Sequencer {
         epoch: read_epoch(matches)?,
         last: read_version(matches, "last")?,
     })
@@ -337,11 +372,11 @@ fn read_config(alloc: Global, matches: &ArgMatches<'_>) -> Result<String, AllocE
     String::from_str(alloc, matches.get_str("config").unwrap_or(""))
 }
 
-fn read_storage(alloc: Global, matches: &ArgMatches<'_>) -> Result<Option<NodeWords>, AllocError> {
+fn read_storage(alloc: Global, matches: &ArgMatches<'_>) -> Result<Option<KindWords>, AllocError> {
     let config = read_config(alloc, matches)?;
     let folder = read_folder(alloc, matches)?;
     match Tag::new(matches.get_one::<u8>("tag").unwrap_or(0)) {
-        Some(tag) => Ok(Some(NodeWords::Storage {
+        Some(tag) => Ok(Some(KindWords::Storage {
             tag,
             config,
             folder,
@@ -350,7 +385,7 @@ fn read_storage(alloc: Global, matches: &ArgMatches<'_>) -> Result<Option<NodeWo
     }
 }
 
-fn read_proxy(alloc: Global, matches: &ArgMatches<'_>) -> Result<Option<NodeWords>, AllocError> {
+fn read_proxy(alloc: Global, matches: &ArgMatches<'_>) -> Result<Option<KindWords>, AllocError> {
     let config = read_config(alloc, matches)?;
     let number = matches.get_one::<u8>("number").unwrap_or(0);
     match (
@@ -358,7 +393,7 @@ fn read_proxy(alloc: Global, matches: &ArgMatches<'_>) -> Result<Option<NodeWord
         read_version(matches, "known"),
         read_shape(matches),
     ) {
-        (Some(epoch), Some(known), Some(shape)) => Ok(Some(NodeWords::Proxy {
+        (Some(epoch), Some(known), Some(shape)) => Ok(Some(KindWords::Proxy {
             epoch,
             number,
             known,
@@ -372,12 +407,12 @@ fn read_proxy(alloc: Global, matches: &ArgMatches<'_>) -> Result<Option<NodeWord
 fn read_recoverer(
     alloc: Global,
     matches: &ArgMatches<'_>,
-) -> Result<Option<NodeWords>, AllocError> {
+) -> Result<Option<KindWords>, AllocError> {
     let config = read_config(alloc, matches)?;
     let ballot = Ballot::new(matches.get_one::<u64>("ballot").unwrap_or(0));
     match (ballot, read_shape(matches)) {
         (Some(ballot), Some(shape)) if ballot.epoch().is_some() => {
-            Ok(Some(NodeWords::Recoverer {
+            Ok(Some(KindWords::Recoverer {
                 ballot,
                 shape,
                 config,
@@ -386,6 +421,12 @@ fn read_recoverer(
         _ => Ok(None),
     }
 }
+
+/// The kinds of nodes.
+const KINDS: [&str; 6] = ["cell", "log", "sequencer", "storage", "proxy", "recoverer"];
+
+/// How far ahead numbers may be, if no word says it.
+const MOST_AHEAD: u64 = 1 << 32;
 
 /// What is below its help.
 const NODE_HELP: &str = "\

@@ -1,6 +1,7 @@
 pub mod Kinds
 pub mod Stands
 pub mod Groups
+pub mod Ahead
 pub mod Courses
 pub mod Faults
 pub mod Turns

@@ -1,10 +1,12 @@
 //! Nodes that a process serves.
 ghost use Rattle.std.specs.Prelude.{◌≡◌, ◌++◌, true, None, Ok, IfErr, IfOk, IfSome, OnErr, OnOk};
 ghost use Rattle.fr_audit_journal.specs.Housing.{last_number};
+ghost use Rattle.fr_node.specs.Ahead.{reach_of};
 ghost use Rattle.fr_node.specs.Groups.{AreTaken};
 ghost use Rattle.fr_node.specs.Stands.{stand_of};
 ghost use Rattle.fr_node.specs.Turns.{IfCrashed, IfRefused, IsBack, IsTaken, Refuses, RefusesFor, UnlessCrashed};
 
+use crate::ahead::Reach;
 use crate::fault::{Crash, NodeTurnFault};
 use crate::stand::{Stand, stand_from};
 use crate::turn::{Hearing, NodeTurn, Round};
@@ -67,6 +69,10 @@ pub trait Acting {
     /// The node.
     fn place(&self) -> NodeId
         ensures { result ≡ node self.now };
+
+    /// How far it is.
+    fn reach(&self) -> Reach
+        ensures { result ≡ reach_of (last_of self.now) (entries self.now) };
 
     /// Takes a turn, above the stamp that the asker has seen, and answers what is entered. A turn that is refused
     /// changes nothing that others see. It is refused for the reason of `refusal`, and else as `Full` alone, only if a

@@ -1,8 +1,10 @@
 //! Machines of nodes that answer asks: cells, logs and sequencers.
 ghost use Rattle.std.specs.Prelude.{◌≡◌, Some, IfSome};
+ghost use Rattle.fr_node.specs.Ahead.{ballot_in};
 
 use fr_ask::{Ask, SeqAsk};
 use fr_audit_journal::Housable;
+use fr_base::Ballot;
 use fr_log::{Log, LogAsk};
 use fr_proxy::Sequencer;
 use fr_register::{Cell, CellAsk};
@@ -14,6 +16,10 @@ pub trait Answering: Housable {
         ensures value { result ≡ Self.unwrapped ask }
         ensures back { IfSome result (λ own. Self.wrapped own ≡ ask) };
 
+    /// The ballot that it promised, if it is a cell.
+    fn promise(&self) -> Option<Ballot>
+        ensures { result ≡ ballot_in (Self.last_of self.now) };
+
     /// Whether an ask may stand behind this one in a group: each of a group is told the same again once all of it was
     /// taken. A log's pushes in the order of their versions are, and reads behind them.
     fn may_join(_last: &Ask, _ask: &Ask) -> bool {
@@ -22,6 +28,10 @@ pub trait Answering: Housable {
 }
 
 impl Answering for Cell {
+    fn promise(&self) -> Option<Ballot> {
+        Some(self.promised())
+    }
+
     fn unwrap(ask: Ask) -> Option<CellAsk> {
         match ask {
             Ask::Cell(ask) => Some(ask),
@@ -32,6 +42,10 @@ impl Answering for Cell {
 }
 
 impl Answering for Log {
+    fn promise(&self) -> Option<Ballot> {
+        None
+    }
+
     fn unwrap(ask: Ask) -> Option<LogAsk> {
         match ask {
             Ask::Cell(_) => None,
@@ -59,6 +73,10 @@ fn is_read(ask: &LogAsk) -> bool {
 }
 
 impl Answering for Sequencer {
+    fn promise(&self) -> Option<Ballot> {
+        None
+    }
+
     fn unwrap(ask: Ask) -> Option<SeqAsk> {
         match ask {
             Ask::Cell(_) => None,

@@ -28,7 +28,10 @@ pub trait Groups<N: Node> {
 /// Each ask apart.
 pub struct Apart;
 
-impl<N: Node> Groups<N> for Apart {
+impl<N: Node> Groups<N> for Apart
+where
+    <N::Plain as Machine>::Ask: Drop,
+{
     fn serve_all(
         _node: &mut N,
         _alloc: Global,

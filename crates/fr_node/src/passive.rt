@@ -7,6 +7,7 @@ ghost use Rattle.fr_node.specs.Passive.{back_refusal, IsOnlyCrash};
 ghost use Rattle.fr_node.specs.Turns.{IfCrashed, IsBack, RefusesFor};
 
 use crate::acting::Acting;
+use crate::ahead::Reach;
 use crate::answering::Answering;
 use crate::course::Course;
 use crate::fault::{Crash, NodeTurnFault, TurnRefusal};
@@ -184,6 +185,7 @@ impl<N: Node, G: Groups<N>> Acting for Passive<N, G>
 where
     N::Plain: Answering,
     <N::Plain as Machine>::Ask: Drop,
+    <N::Plain as Machine>::Tell: Drop,
 {
     ghost use Rattle.std.specs.Prelude.{[], not, None, Some};
     ghost use Rattle.fr_node.specs.declared.fault.TurnRefusal.TheVariants as refusal;
@@ -213,6 +215,14 @@ where
 
     fn place(&self) -> NodeId {
         self.course.node()
+    }
+
+    fn reach(&self) -> Reach {
+        Reach {
+            ballot: self.node.plain().promise(),
+            stamp: self.course.last_stamp(),
+            version: None,
+        }
     }
 
     fn act(&mut self, alloc: Global, at: Stamp, turn: NodeTurn) -> Result<Entry, NodeTurnFault> {
