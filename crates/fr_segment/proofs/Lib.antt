@@ -1,0 +1,17 @@
+mod CrcLemmas
+mod Crash
+mod Moments
+mod PutLemmas
+mod PutRun
+mod ReadRun
+mod FaultLemmas
+mod FileLemmas
+mod TableLemmas
+mod GroupLemmas
+mod AllLemmas
+mod DamageLemmas
+mod ReadMore
+mod Grown
+mod ParseLemmas
+mod ReadLemmas
+mod TableIs

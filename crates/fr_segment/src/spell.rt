@@ -1,0 +1,83 @@
+//! The bytes of a group.
+ghost use Rattle.std.specs.Prelude.{◌≡◌, ◌+◌, ◌-◌, ◌<◌, ◌≤◌, ◌^◌, min, [], ◌∷◌, ◌++◌, length, IfOk, OnOk};
+ghost use Rattle.std.specs.Vec.{vec_capacity};
+ghost use Rattle.fr_segment.specs.File.{body, behind};
+ghost use Rattle.fr_segment.specs.Group.{records_of, places_of};
+
+use crate::crc::sum;
+use crate::place::Place;
+use std::alloc::{AllocError, Global};
+
+/// How long the body of a group is; the greatest `usize` if it is longer.
+pub(crate) fn body_len(group: &[Vec<u8>]) -> usize
+    ensures { result ≡ min (length (body (records_of group.now))) (2 ^ 64 - 1) }
+{
+    let mut len: usize = 0;
+    for payload in group {
+        len = len.saturating_add(payload.len().saturating_add(4));
+    }
+    len
+}
+
+/// Adds a record, its length before it.
+fn push_record(bytes: &mut Vec<u8>, payload: &[u8]) -> Result<(), AllocError>
+    requires { length payload.now < 2 ^ 32 }
+    ensures { OnOk result (bytes.new.items ≡ bytes.old.items ++ body (payload.now ∷ [])) }
+{
+    let len = payload.len() as u32;
+    bytes.extend_from_slice(&len.to_be_bytes())?;
+    bytes.extend_from_slice(payload)?;
+    Ok(())
+}
+
+/// The body of a group.
+fn spelled_body(alloc: Global, group: &[Vec<u8>]) -> Result<Vec<u8>, AllocError>
+    requires { length (body (records_of group.now)) < 2 ^ 32 }
+    ensures { IfOk result (λ bytes. bytes.items ≡ body (records_of group.now)) }
+{
+    let mut bytes = Vec::new(alloc);
+    for payload in group {
+        push_record(&mut bytes, payload)?;
+    }
+    Ok(bytes)
+}
+
+/// What is written behind the closed gate for a group: its length and its records, each with a checksum, and a closed gate.
+pub(crate) fn behind_gate(
+    alloc: Global,
+    number: u64,
+    group: &[Vec<u8>],
+) -> Result<Vec<u8>, AllocError>
+    requires { length (body (records_of group.now)) < 2 ^ 32 }
+    ensures { IfOk result (λ bytes. bytes.items ≡ behind number (records_of group.now)) }
+{
+    let body = spelled_body(alloc, group)?;
+    let len = (body.len() as u32).to_be_bytes();
+    let mut bytes = Vec::with_capacity(alloc, body.len() + 14)?;
+    bytes.extend_from_slice(&len)?;
+    bytes.extend_from_slice(&sum(number, &len).to_be_bytes())?;
+    bytes.extend_from_slice(&body)?;
+    bytes.extend_from_slice(&sum(number, &body).to_be_bytes())?;
+    bytes.extend_from_slice(&[0, 0])?;
+    Ok(bytes)
+}
+
+/// Adds the places of a group whose body begins at a place to a table that has room for them.
+pub(crate) fn add_places(table: &mut Vec<Place>, from: usize, group: &[Vec<u8>])
+    requires fits { from + length (body (records_of group.now)) < 2 ^ 64 }
+    requires room { length table.old.items + length group.now ≤ vec_capacity table.old }
+    ensures { table.new.items ≡ table.old.items ++ places_of from group.now }
+{
+    let mut at = from;
+    for payload in group {
+        let place = Place {
+            at: at + 4,
+            len: payload.len(),
+        };
+        match table.push(place) {
+            Ok(()) => {}
+            Err(_) => unreachable!(),
+        }
+        at += 4 + payload.len();
+    }
+}
