@@ -96,7 +96,6 @@ never_exact : (file : List ℕ) (gate : ℕ) (groups : List Group) → IsTorn fi
 never_exact file gate groups torn front =
     let p = groups_from 0 torn.before in
     let k = length torn.before in
-    let b = block k (body torn.last) ++ [] in
     let whole : groups_from 0 groups ≡ p ++ 1 ∷ 1 ∷ (block k (body torn.last) ++ []) = ap (λ xs. groups_from 0 xs) torn.split ∙ groups_push torn.before torn.last in
     let e = ap length whole in
     let long = length-append p (1 ∷ 1 ∷ (block k (body torn.last) ++ [])) in

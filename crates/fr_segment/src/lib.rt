@@ -9,7 +9,10 @@ mod place;
 mod read;
 mod segment;
 mod spell;
+#[cfg(test)]
+mod tests;
 
 pub use crc::{crc32c, sum};
 pub use laws::{crc_law, damage_law, left_law};
 pub use segment::Segment;
+pub use spell::group_len;

@@ -12,7 +12,7 @@ ghost use Rattle.fr_segment.specs.File.{Group, body, groups_from, AreShort, Stan
 use crate::gate::put;
 use crate::place::Place;
 use crate::read::{read_file, read_record};
-use crate::spell::{add_places, behind_gate, body_len};
+use crate::spell::{add_places, behind_gate, group_len};
 use fr_base::Bytes;
 use fr_record::{Device, DeviceFault, RecordFault};
 use std::alloc::Global;
@@ -125,7 +125,7 @@ impl<D: Device> Segment<D> {
         if group.is_empty() {
             return Ok(());
         }
-        let len = body_len(group);
+        let len = group_len(group);
         if !self.has_room(len + 14) {
             return Err(RecordFault::Full);
         }

@@ -8,8 +8,9 @@ use crate::crc::sum;
 use crate::place::Place;
 use std::alloc::{AllocError, Global};
 
-/// How long the body of a group is; the greatest `usize` if it is longer.
-pub(crate) fn body_len(group: &[Vec<u8>]) -> usize
+/// How many bytes the records of a group take, with four for each; the greatest `usize` if they are more. A group that
+/// takes 4 GiB cannot be added.
+pub fn group_len(group: &[Vec<u8>]) -> usize
     ensures { result ≡ min (length (body (records_of group.now))) (2 ^ 64 - 1) }
 {
     let mut len: usize = 0;

@@ -1,9 +1,9 @@
-use Rattle.std.proofs.Common.{refl, ap, sym, subst, ◌∙◌, ◌≡◌, ◌+◌, ◌<◌, length, Err, arith}
-use Rattle.fr_segment.specs.File.{Group, StandsFor, IsLeft, IsAtRest}
-use Rattle.fr_segment.specs.Parse.{mended, IsTorn}
+use Rattle.std.proofs.Common.{ap, sym, subst, ◌∙◌, Err}
+use Rattle.fr_segment.specs.File.{StandsFor, IsLeft, IsAtRest}
+use Rattle.fr_segment.specs.Parse.{mended}
 use Rattle.fr_segment.specs.Table.{groups_in}
 use Rattle.fr_segment.proofs.ReadLemmas.{while_read, while_mended, never_at_rest, front_mended, none_file, none_stands, some_file, some_stands, some_torn}
-use Rattle.fr_segment.proofs.FaultLemmas.{only_memory}
+use Rattle.fr_segment.proofs.FaultLemmas.{only_memory, only_full}
 use Rattle.fr_segment.proofs.read.read_file.Goals as goal
 
 pub returns-in-Err-clause-any_moment : goal.returns-in-Err-clause-any_moment
@@ -53,3 +53,40 @@ pub returns-in-Ok-mend-clause-stands_for : goal.returns-in-Ok-mend-clause-stands
 returns-in-Ok-mend-clause-stands_for g c =
     some_stands g.D.Device.disk c.args.device.now c.load.new.device c.load.ensures.stands c.deref.result.now (c.deref.ensures.value ∙ c.in-Ok.ensures.bytes) c.in-Ok-parse.found.torn c.in-Ok-parse.found.table.items c.in-Ok-parse.found.end c.in-Ok-parse.found.count
     c.in-Ok-parse.ensures.parsed c.in-Ok-parse.ensures.stands c.in-Some.gate c.mend.new.device c.in-Some.is c.in-Ok-mend.ensures.ok
+
+pub returns-in-Ok-mend-clause-any_moment : goal.returns-in-Ok-mend-clause-any_moment
+returns-in-Ok-mend-clause-any_moment g c before h short leaves =
+    while_mended g.D.Device.Led g.D.Device.disk c.args.device.now c.load.new.device c.load.ensures.any_moment c.mend.new.device c.load.ensures.stands c.deref.result.now (c.deref.ensures.value ∙ c.in-Ok.ensures.bytes) c.in-Some.gate (groups_in c.in-Ok-parse.found.count (mended c.deref.result.now c.in-Ok-parse.found.torn))
+    (some_torn c.deref.result.now c.in-Ok-parse.found.torn (groups_in c.in-Ok-parse.found.count (mended c.deref.result.now c.in-Ok-parse.found.torn)) c.in-Some.gate c.in-Some.is c.in-Ok-parse.ensures.torn) c.in-Ok-parse.ensures.stands c.mend.ensures.any_moment before h short leaves
+
+pub returns-in-Ok-mend-clause-at_rest : goal.returns-in-Ok-mend-clause-at_rest
+returns-in-Ok-mend-clause-at_rest g c before leaves =
+    absurd (never_at_rest g.D.Device.Led g.D.Device.disk c.args.device.now c.load.new.device c.load.ensures.any_moment c.mend.new.device c.load.ensures.stands c.deref.result.now (c.deref.ensures.value ∙ c.in-Ok.ensures.bytes) c.in-Some.gate (groups_in c.in-Ok-parse.found.count (mended c.deref.result.now c.in-Ok-parse.found.torn))
+    (some_torn c.deref.result.now c.in-Ok-parse.found.torn (groups_in c.in-Ok-parse.found.count (mended c.deref.result.now c.in-Ok-parse.found.torn)) c.in-Some.gate c.in-Some.is c.in-Ok-parse.ensures.torn) c.in-Ok-parse.ensures.stands c.mend.ensures.any_moment before leaves)
+
+pub returns-in-Ok-mend-clause-front : goal.returns-in-Ok-mend-clause-front
+returns-in-Ok-mend-clause-front g c =
+    front_mended g.D.Device.Led g.D.Device.disk c.args.device.now c.load.new.device c.load.ensures.any_moment c.mend.new.device c.load.ensures.stands c.deref.result.now (c.deref.ensures.value ∙ c.in-Ok.ensures.bytes) c.in-Some.gate (groups_in c.in-Ok-parse.found.count (mended c.deref.result.now c.in-Ok-parse.found.torn))
+    (some_torn c.deref.result.now c.in-Ok-parse.found.torn (groups_in c.in-Ok-parse.found.count (mended c.deref.result.now c.in-Ok-parse.found.torn)) c.in-Some.gate c.in-Some.is c.in-Ok-parse.ensures.torn) c.in-Ok-parse.ensures.stands c.mend.ensures.any_moment c.mend.ensures.long
+
+pub returns-clause-any_moment : goal.returns-clause-any_moment
+returns-clause-any_moment g c before h short leaves =
+    while_mended g.D.Device.Led g.D.Device.disk c.args.device.now c.load.new.device c.load.ensures.any_moment c.mend.new.device c.load.ensures.stands c.deref.result.now (c.deref.ensures.value ∙ c.in-Ok.ensures.bytes) c.in-Some.gate (groups_in c.in-Ok-parse.found.count (mended c.deref.result.now c.in-Ok-parse.found.torn))
+    (some_torn c.deref.result.now c.in-Ok-parse.found.torn (groups_in c.in-Ok-parse.found.count (mended c.deref.result.now c.in-Ok-parse.found.torn)) c.in-Some.gate c.in-Some.is c.in-Ok-parse.ensures.torn) c.in-Ok-parse.ensures.stands c.mend.ensures.any_moment before h short leaves
+
+pub returns-clause-at_rest : goal.returns-clause-at_rest
+returns-clause-at_rest g c before leaves =
+    absurd (never_at_rest g.D.Device.Led g.D.Device.disk c.args.device.now c.load.new.device c.load.ensures.any_moment c.mend.new.device c.load.ensures.stands c.deref.result.now (c.deref.ensures.value ∙ c.in-Ok.ensures.bytes) c.in-Some.gate (groups_in c.in-Ok-parse.found.count (mended c.deref.result.now c.in-Ok-parse.found.torn))
+    (some_torn c.deref.result.now c.in-Ok-parse.found.torn (groups_in c.in-Ok-parse.found.count (mended c.deref.result.now c.in-Ok-parse.found.torn)) c.in-Some.gate c.in-Some.is c.in-Ok-parse.ensures.torn) c.in-Ok-parse.ensures.stands c.mend.ensures.any_moment before leaves)
+
+pub returns-clause-front : goal.returns-clause-front
+returns-clause-front g c =
+    front_mended g.D.Device.Led g.D.Device.disk c.args.device.now c.load.new.device c.load.ensures.any_moment c.mend.new.device c.load.ensures.stands c.deref.result.now (c.deref.ensures.value ∙ c.in-Ok.ensures.bytes) c.in-Some.gate (groups_in c.in-Ok-parse.found.count (mended c.deref.result.now c.in-Ok-parse.found.torn))
+    (some_torn c.deref.result.now c.in-Ok-parse.found.torn (groups_in c.in-Ok-parse.found.count (mended c.deref.result.now c.in-Ok-parse.found.torn)) c.in-Some.gate c.in-Some.is c.in-Ok-parse.ensures.torn) c.in-Ok-parse.ensures.stands c.mend.ensures.any_moment c.mend.ensures.long
+
+pub returns-in-Err-clause-durable : goal.returns-in-Err-clause-durable
+returns-in-Err-clause-durable g c e =
+    c.load.ensures.memory (c.in-Err.is ∙ ap (λ f. Err f) (only_memory c.in-Err.fault e (λ f. c.load.ensures.never_full (c.in-Err.is ∙ ap (λ f. Err f) f)) (λ f. c.load.ensures.never_failed (c.in-Err.is ∙ ap (λ f. Err f) f)) (λ f. c.load.ensures.never_broken (c.in-Err.is ∙ ap (λ f. Err f) f))))
+
+pub returns-clause-durable : goal.returns-clause-durable
+returns-clause-durable g c e = absurd (c.mend.ensures.never_full (c.in-Err-mend.is ∙ ap (λ f. Err f) (only_full c.in-Err-mend.fault e)))

@@ -60,7 +60,7 @@ unreachable-requires g c =
     let bytes = ap length (c.deref.ensures.value ∙ c.in_ok-new.ensures) in
     let enough = room c.has_room.result _ _ c.has_room.ensures.result c.if-not-has_room.false in
     let b = body (records_of c.args.group.now) in
-    omega (arith, end, groups, capacity, full.1, bytes, enough, c.body_len-len.ensures, c.requires, length-append (block c.self.inside.count b) (0 ∷ 0 ∷ []), length-block c.self.inside.count b)
+    omega (arith, end, groups, capacity, full.1, bytes, enough, c.group_len-len.ensures, c.requires, length-append (block c.self.inside.count b) (0 ∷ 0 ∷ []), length-block c.self.inside.count b)
 
 pub overflow_add-self-2 : goal.overflow_add-self-2
 overflow_add-self-2 g c =

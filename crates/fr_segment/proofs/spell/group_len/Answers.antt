@@ -1,6 +1,6 @@
 use Rattle.std.proofs.Common.{rules, ◌≡◌, length, ap, arith}
 use Rattle.fr_segment.proofs.GroupLemmas.{long_more}
-use Rattle.fr_segment.proofs.spell.body_len.Goals as goal
+use Rattle.fr_segment.proofs.spell.group_len.Goals as goal
 
 pub loop-payload-preserved : goal.loop-payload-preserved
 loop-payload-preserved c =
