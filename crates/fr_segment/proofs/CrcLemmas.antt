@@ -65,7 +65,8 @@ steps_even : (n m : ℕ) → bit_steps n (m * 2 ^ n) ≡ m
 unfolding bit_steps
 steps_even zero m = omega arith
 steps_even (suc n) m =
-    let same : m * 2 ^ suc n ≡ m * 2 ^ n * 2 = ap (λ k. m * k) (pow-add 2 n 1) ∙ sym (mul_assoc m (2 ^ n) 2) in
+    let next : suc n ≡ n + 1 = omega arith in
+    let same : m * 2 ^ suc n ≡ m * 2 ^ n * 2 = ap (λ k. m * 2 ^ k) next ∙ ap (λ k. m * k) (pow-add 2 n 1) ∙ sym (mul_assoc m (2 ^ n) 2) in
     ap (λ s. bit_steps n (bit_step s)) same ∙ ap (λ s. bit_steps n s) (step_even (m * 2 ^ n)) ∙ steps_even n m
 
 -- a byte's eight steps, by those of its low eight bits alone

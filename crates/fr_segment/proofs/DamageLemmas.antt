@@ -235,11 +235,11 @@ module _ (number : ℕ) (g : Group) (gs : List Group) (tail : List ℕ) (short :
 
 told : (gs : List Group) (number : ℕ) (tail : List ℕ) → AreShort gs → AreBytes (groups_from number gs ++ 0 ∷ 0 ∷ tail) → Told number gs tail
 told [] number tail short bytes now others at bytes_now off within stands = absurd (omega (arith, within))
-told (g ∷ gs) number tail short bytes =
+told (g ∷ gs) number tail short bytes now others at bytes_now off within stands =
     let parts : AreBytes (1 ∷ 1 ∷ (block number (body g) ++ (groups_from (suc number) gs ++ 0 ∷ 0 ∷ tail))) = subst AreBytes (group_split number g gs (0 ∷ 0 ∷ tail)) bytes in
     let one = all_rest IsByte 1 (1 ∷ (block number (body g) ++ (groups_from (suc number) gs ++ 0 ∷ 0 ∷ tail))) parts in
     let two = all_rest IsByte 1 (block number (body g) ++ (groups_from (suc number) gs ++ 0 ∷ 0 ∷ tail)) one in
-    one_told number g gs tail short parts (told gs (suc number) tail (all_rest (λ (x : Group). length (body x) < 2 ^ 32) g gs short) (all_right IsByte (block number (body g)) (groups_from (suc number) gs ++ 0 ∷ 0 ∷ tail) two))
+    one_told number g gs tail short parts (told gs (suc number) tail (all_rest (λ (x : Group). length (body x) < 2 ^ 32) g gs short) (all_right IsByte (block number (body g)) (groups_from (suc number) gs ++ 0 ∷ 0 ∷ tail) two)) now others at bytes_now off within stands
 
 pub damage_is_told : (file now : List ℕ) (groups : List Group) (at : ℕ) → IsAtRest groups file → AreBytes file → AreBytes now → IsOneOff file now at
     → at < length (groups_from 0 groups) → (others : List Group) → StandsFor now others → others ≡ groups

@@ -1,7 +1,7 @@
 -- A file after a put: grown by the group, or failed.
 use Rattle.std.proofs.Common.{◌≡◌, ◌⊎◌, inl, inr, ℕ, ◌+◌, ◌<◌, ◌≤◌, ◌^◌, Bool, true, false, List, [], ◌∷◌, ◌++◌, length, get_or, take, drop, refl, sym, ap, ◌∙◌, subst, arith, append_assoc, length-append, take-append-drop}
 use Rattle.std.proofs.lemmas.List.{length-take, length-drop, get_or-take, drop-take, drop-drop, drop_at, take-take}
-use Rattle.fr_record.specs.Disk.{Disk, MayLeave, IsDurable, Stands}
+use Rattle.fr_record.specs.Disk.{Disk, MayLeave, IsDurable, Stands, written}
 use Rattle.fr_record.specs.Moments.{Throughout}
 use Rattle.fr_segment.specs.declared.place.Place.{Place}
 use Rattle.std.proofs.Common.{Vec}
@@ -16,7 +16,7 @@ use Rattle.fr_segment.proofs.Crash.{durable_leaves}
 use Rattle.fr_segment.proofs.Moments.{started, at_last, weaker}
 use Rattle.fr_segment.proofs.PutLemmas.{content_left}
 use Rattle.fr_segment.proofs.FileLemmas.{length-block, length-groups_in}
-use Rattle.fr_segment.proofs.ReadMore.{at_is, read_split, read_stays, read_found, read_more, read_behind, closed_split, closed_from}
+use Rattle.fr_segment.proofs.ReadMore.{none_read, at_is, read_split, read_stays, read_found, read_more, read_behind, closed_split, closed_from}
 
 -- the front of a file that a put leaves
 pub put_front : (old : List ℕ) (gate : ℕ) (new left : List ℕ) → IsPut old gate new left → take gate left ≡ take gate old
@@ -188,3 +188,15 @@ with_some gs (v ∷ vs) some = refl
 
 pub room : (r : Bool) (x y : ℕ) → r ≡ nat_lt x y → r ≡ true → x < y
 room r x y is works = grind (arith, nat_tests)
+
+-- a file that was just made
+pub fresh_file : (disk : Disk) (old : List ℕ) → disk.content ≡ written old 0 (0 ∷ 0 ∷ []) → IsDurable disk → (items : List Place) → items ≡ [] → IsFile disk items 0 false (groups_in 0 disk.content)
+unfolding groups_in
+fresh_file disk old is durable items none =
+    let e = ap length is in
+    subst (λ t. IsFile disk t 0 false []) (sym none) (record {
+      read = none_read disk.content;
+      long = omega (arith, e);
+      closed = λ works. (ap (λ l. get_or l 0 1) is, ap (λ l. get_or l 1 1) is);
+      durable = λ works. durable;
+    })

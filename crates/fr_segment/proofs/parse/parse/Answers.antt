@@ -1,4 +1,5 @@
 use Rattle.std.proofs.Common.{rules, ◌≡◌, ◌+◌, ◌-◌, ◌<◌, ◌≤◌, ℕ, List, true, false, length, refl, ap, sym, subst, ◌∙◌, take, drop, get_or, arith, Err}
+use Rattle.fr_record.specs.declared.fault.RecordFault.TheVariants.{Broken}
 use Rattle.fr_segment.specs.File.{IsClosedAt, body}
 use Rattle.fr_segment.proofs.FileLemmas.{groups_long}
 use Rattle.fr_segment.proofs.ReadMore.{at_is}
@@ -32,7 +33,8 @@ returns-in-Err-clause-broken c e gs stands =
     let ten : at + 2 + 8 ≡ at + 10 = omega arith in
     let long : at + 10 + n - (at + 10) ≡ n = omega arith in
     let same = block_same c.args.bytes.now (at + 2) c.loop-at.count n c.in-Some.ensures.some (body it.g) it.rest it.short it.is in
-    c.add_records.ensures.broken (c.in-Err.is ∙ e) it.g it.short (ap (λ k. take k (drop (at + 10) c.args.bytes.now)) long ∙ ap (λ k. take n (drop k c.args.bytes.now)) (sym ten) ∙ same)
+    let fault : c.in-Err.fault ≡ Broken = cc e in
+    c.add_records.ensures.broken (c.in-Err.is ∙ ap (λ f. Err f) fault) it.g it.short (ap (λ k. take k (drop (at + 10) c.args.bytes.now)) long ∙ ap (λ k. take n (drop k c.args.bytes.now)) (sym ten) ∙ same)
 
 pub returns-then-not-is_closed-clause-broken : goal.returns-then-not-is_closed-clause-broken
 returns-then-not-is_closed-clause-broken c e gs stands =
@@ -42,7 +44,7 @@ returns-then-not-is_closed-clause-broken c e gs stands =
     let opens : IsClosedAt c.args.bytes.now c.loop-at.at → ⊥ = λ shut. (let is = c.is_closed.ensures.1 (within, shut) in absurd (cc (is, c.if-is_closed.false))) in
     let torn : (get_or c.args.bytes.now at 0 ≡ 1) × (get_or c.args.bytes.now (at + 1) 0 ≡ 1) → ⊥ = λ both. (let is = c.is_opened.ensures.1 both in absurd (cc (is, c.if-not-is_opened.true))) in
     let end = last_closed c.args.bytes.now c.loop-at.table.items at c.loop-at.count c.loop-at.invariant.so_far n c.in-Some.ensures.some c.add_records.new.table.items c.in-Ok.ensures.ok within torn opens gs stands in
-    let is = c.is_closed-2.ensures.1 end in
+    let is = c.is_closed-then-not-is_opened.ensures.1 end in
     absurd (cc (is, c.if-not-is_closed.true))
 
 pub returns-then-not-is_opened-clause-parsed : goal.returns-then-not-is_opened-clause-parsed
@@ -52,7 +54,7 @@ returns-then-not-is_opened-clause-parsed c =
     let within : at + 1 < length c.args.bytes.now = omega (arith, c.loop-at-test.true) in
     let opens : IsClosedAt c.args.bytes.now c.loop-at.at → ⊥ = λ shut. (let is = c.is_closed.ensures.1 (within, shut) in absurd (cc (is, c.if-is_closed.false))) in
     let torn : (get_or c.args.bytes.now at 0 ≡ 1) × (get_or c.args.bytes.now (at + 1) 0 ≡ 1) → ⊥ = λ both. (let is = c.is_opened.ensures.1 both in absurd (cc (is, c.if-not-is_opened.true))) in
-    let end = c.is_closed-2.ensures.0 c.if-not-is_closed.false in
+    let end = c.is_closed-then-not-is_opened.ensures.0 c.if-not-is_closed.false in
     torn_parsed c.args.bytes.now c.loop-at.table.items at c.loop-at.count c.loop-at.invariant.so_far n c.in-Some.ensures.some c.add_records.new.table.items c.in-Ok.ensures.ok within torn opens end.0 end.1
 
 pub returns-then-not-is_opened-clause-torn : goal.returns-then-not-is_opened-clause-torn
@@ -62,7 +64,7 @@ returns-then-not-is_opened-clause-torn c =
     let within : at + 1 < length c.args.bytes.now = omega (arith, c.loop-at-test.true) in
     let opens : IsClosedAt c.args.bytes.now c.loop-at.at → ⊥ = λ shut. (let is = c.is_closed.ensures.1 (within, shut) in absurd (cc (is, c.if-is_closed.false))) in
     let torn : (get_or c.args.bytes.now at 0 ≡ 1) × (get_or c.args.bytes.now (at + 1) 0 ≡ 1) → ⊥ = λ both. (let is = c.is_opened.ensures.1 both in absurd (cc (is, c.if-not-is_opened.true))) in
-    let end = c.is_closed-2.ensures.0 c.if-not-is_closed.false in
+    let end = c.is_closed-then-not-is_opened.ensures.0 c.if-not-is_closed.false in
     torn_gate c.args.bytes.now c.loop-at.table.items at c.loop-at.count c.loop-at.invariant.so_far n c.in-Some.ensures.some c.add_records.new.table.items c.in-Ok.ensures.ok within torn opens end.0 end.1
 
 pub returns-then-not-is_opened-clause-stands : goal.returns-then-not-is_opened-clause-stands
@@ -72,7 +74,7 @@ returns-then-not-is_opened-clause-stands c =
     let within : at + 1 < length c.args.bytes.now = omega (arith, c.loop-at-test.true) in
     let opens : IsClosedAt c.args.bytes.now c.loop-at.at → ⊥ = λ shut. (let is = c.is_closed.ensures.1 (within, shut) in absurd (cc (is, c.if-is_closed.false))) in
     let torn : (get_or c.args.bytes.now at 0 ≡ 1) × (get_or c.args.bytes.now (at + 1) 0 ≡ 1) → ⊥ = λ both. (let is = c.is_opened.ensures.1 both in absurd (cc (is, c.if-not-is_opened.true))) in
-    let end = c.is_closed-2.ensures.0 c.if-not-is_closed.false in
+    let end = c.is_closed-then-not-is_opened.ensures.0 c.if-not-is_closed.false in
     torn_stands c.args.bytes.now c.loop-at.table.items at c.loop-at.count c.loop-at.invariant.so_far n c.in-Some.ensures.some c.add_records.new.table.items c.in-Ok.ensures.ok within torn opens end.0 end.1
 
 pub loop-at-preserved : goal.loop-at-preserved

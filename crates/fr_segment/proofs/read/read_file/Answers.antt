@@ -1,4 +1,5 @@
 use Rattle.std.proofs.Common.{ap, sym, subst, ◌∙◌, Err}
+use Rattle.fr_record.specs.Fault.{is_device}
 use Rattle.fr_segment.specs.File.{StandsFor, IsLeft, IsAtRest}
 use Rattle.fr_segment.specs.Parse.{mended}
 use Rattle.fr_segment.specs.Table.{groups_in}
@@ -89,4 +90,4 @@ returns-in-Err-clause-durable g c e =
     c.load.ensures.memory (c.in-Err.is ∙ ap (λ f. Err f) (only_memory c.in-Err.fault e (λ f. c.load.ensures.never_full (c.in-Err.is ∙ ap (λ f. Err f) f)) (λ f. c.load.ensures.never_failed (c.in-Err.is ∙ ap (λ f. Err f) f)) (λ f. c.load.ensures.never_broken (c.in-Err.is ∙ ap (λ f. Err f) f))))
 
 pub returns-clause-durable : goal.returns-clause-durable
-returns-clause-durable g c e = absurd (c.mend.ensures.never_full (c.in-Err-mend.is ∙ ap (λ f. Err f) (only_full c.in-Err-mend.fault e)))
+returns-clause-durable g c e = absurd (c.mend.ensures.never_full (c.in-Err-mend.is ∙ ap (λ f. Err f) (only_full c.in-Err-mend.fault (ap is_device (sym c.from.ensures) ∙ e))))
