@@ -151,10 +151,13 @@ class Level:
 
     def help_of(self, names):
         command, path = self.command, self.path
-        for name in names:
+        for at, name in enumerate(names):
             below = command.command(name)
             if name == "help" and command.below and not below:
-                return Shown((*path[1:], "help"))
+                if not names[at + 1 :]:
+                    return Shown((*path[1:], "help"))
+                usage = f"Usage: {' '.join(path)} help [COMMAND]...\n"
+                return Bad(f"error: unrecognized subcommand '{names[at + 1]}'\n\n{usage}")
             if not below:
                 return Level(command, path[:-1]).bad(f"unrecognized subcommand '{name}'")
             command, path = below, (*path, name)
