@@ -74,7 +74,8 @@ where
     N::Plain: Housable,
     <N::Plain as Machine>::Ask: Drop,
 {
-    /// A node that did nothing yet.
+    /// A node that did nothing yet. It works, and no fault of its device is open (`owed`): otherwise its last request
+    /// might be in no journal. The housing keeps the request that met a fault, since the node knows only its state.
     pub fn new(alloc: Global, node: N, id: NodeId) -> Self
         requires works { N.is_failed node ≡ false }
         requires free { N.owed node ≡ None }

@@ -9,6 +9,9 @@ use std::alloc::{AllocError, Global};
 use std::io;
 
 /// A file in memory. It is lost with the program, so a crash that leaves anything of it leaves all that was written.
+///
+/// `apply --store sql` keeps its files so, because the library's trees in memory walk a table for each row that is
+/// deleted. A sync does nothing.
 #[derive(Drop)]
 pub(crate) struct MemoryFile {
     bytes: Vec<u8>,

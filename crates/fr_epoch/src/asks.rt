@@ -55,10 +55,10 @@ pub(crate) fn locks(
     Ok(asks)
 }
 
-/// The logs that did not reply.
 fn unlocked(alloc: Global, end: &EndTally) -> Result<Vec<u8>, Memory>
     ensures { IfOk result (λ logs. logs.items ≡ unlocked end.now) }
 {
+    // A log whose reply counts is not asked again: a later reply would change nothing (invariant 4).
     Ok(
         (0..end.m())
             .filter(|index| !end.has_replied(*index))
@@ -79,6 +79,7 @@ pub(crate) fn seeds(
     requires limits { IsGeneration generation }
     ensures { IfOk result (λ asks. asks.items ≡ map (seed_ask epoch tail.now generation.m generation.k) (others generation.m seeded.now)) }
 {
+    // By the shape of the new generation, whose logs these are (invariant 9).
     let logs = logs_but(alloc, generation.m(), seeded)?;
     let mut asks = Vec::with_capacity(alloc, logs.len())?;
     for index in logs.as_slice() {
@@ -86,6 +87,8 @@ pub(crate) fn seeds(
             epoch,
             index: *index,
         };
+        // Cut anew for each log and each repeat. The copy no longer changes, so it is the same seed each time
+        // (invariant 5).
         let seed = tail.seeds_for(alloc, id, generation.m(), generation.k())?;
         let to = NodeId::Log {
             epoch,
@@ -110,7 +113,6 @@ pub(crate) fn writes(
     writes_to(alloc, ballot, &value, cells.as_slice())
 }
 
-/// The writes of a value to these cells.
 fn writes_to(
     alloc: Global,
     ballot: Ballot,
@@ -131,10 +133,10 @@ fn writes_to(
     Ok(asks)
 }
 
-/// The cells that were not heard.
 fn silent(alloc: Global, poll: &CellPoll) -> Result<Vec<u8>, Memory>
     ensures { IfOk result (λ cells. cells.items ≡ unheard poll.now) }
 {
+    // Cells that answered are left out, so that a repeat costs only what is still missing.
     Ok(
         (0..poll.cells())
             .filter(|index| !poll.has_heard(*index))
@@ -142,12 +144,12 @@ fn silent(alloc: Global, poll: &CellPoll) -> Result<Vec<u8>, Memory>
     )
 }
 
-/// The value that spells a state.
 fn value_of(alloc: Global, state: &CoordState) -> Result<CellValue, Memory>
     ensures { IfOk result (λ value. value ≡ spelling state.now) }
 {
     match CellValue::new(encode(alloc, state)?) {
         Some(value) => Ok(value),
+        // 64 generations, the most that a state has, are spelled in fewer than the 4,096 bytes of a cell.
         None => unreachable!(),
     }
 }
@@ -171,12 +173,12 @@ pub(crate) fn marks(
             epoch,
             index: *index,
         };
+        // One push for all logs and all repeats (invariant 8). Each request owns its copy, since it travels alone.
         asks.push((to, Ask::Log(LogAsk::Push(mark.copy()?))))?;
     }
     Ok(asks)
 }
 
-/// The mark of a plan.
 fn mark(alloc: Global, draft: &Draft) -> Result<Push, Memory>
     requires { draft.now.generation.seeded_to ≡ draft.now.tail.rv }
     ensures { IfOk result (λ push. push ≡ mark_of (plan_in draft.now)) }
@@ -191,6 +193,7 @@ fn mark(alloc: Global, draft: &Draft) -> Result<Push, Memory>
         state,
     ) {
         Some(push) => Ok(push),
+        // `rv + 1` was found to be a version before there was a plan, and `pev <= rv` as well (invariant 3).
         None => unreachable!(),
     }
 }
@@ -231,10 +234,13 @@ pub(crate) fn peeks_from(
 ) -> Result<Vec<(NodeId, Ask)>, Memory>
     ensures { IfOk result (λ asks. asks.items ≡ peeks_from epoch tail.now tag reached) }
 {
+    // Nothing of the tag is missing: whatever its logs hold above `rv` is not taken over, since no version there was
+    // acknowledged.
     if reached >= tail.rv() {
         return Ok(Vec::new(alloc));
     }
     let most = most_records();
+    // All responders that hold the tag are asked, since any of them may be lost by now. The first answer counts.
     let logs = holding(alloc, tail, tag)?;
     let mut asks = Vec::with_capacity(alloc, logs.len())?;
     for index in logs.as_slice() {
@@ -253,10 +259,10 @@ pub(crate) fn peeks_from(
     Ok(asks)
 }
 
-/// The responders that hold a tag.
 fn holding(alloc: Global, tail: &Tail, tag: Tag) -> Result<Vec<u8>, Memory>
     ensures { IfOk result (λ logs. logs.items ≡ holding tail.now tag) }
 {
+    // The old generation's shape, because these are its logs (invariant 9).
     let m = tail.m();
     let k = tail.k();
     Ok(
@@ -268,7 +274,7 @@ fn holding(alloc: Global, tail: &Tail, tag: Tag) -> Result<Vec<u8>, Memory>
     )
 }
 
-/// How many records a peek asks for.
+/// The most that one answer can have, so that a copy takes the fewest peeks.
 fn most_records() -> Most
     ensures { result ≡ 100 }
 {

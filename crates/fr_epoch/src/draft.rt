@@ -33,6 +33,8 @@ pub(crate) fn parent_in(alloc: Global, value: &CellValue) -> Result<Option<Found
     ensures limits { IfOk result (λ found. IfSome found (λ f. IsGeneration f.last)) }
 {
     next_law();
+    // Bytes that are no state end the attempt, and are not an error of the program: cells hold whatever was written
+    // there.
     match decode(alloc, value.as_slice()) {
         Ok(state) => {
             let last = state.last();
@@ -66,8 +68,10 @@ pub(crate) fn draft(
     let ends = match end.end() {
         Ok(Some(ends)) => ends,
         Ok(None) => unreachable!(),
+        // Tested first: with `pev` above `rv` there is no end of which anything further could be said (invariant 3).
         Err(_) => return Ok(Err(LostWhy::Inconsistent)),
     };
+    // Before the generation is made, because its mark needs the version `rv + 1` (invariant 3).
     if ends.rv.after().is_none() {
         return Ok(Err(LostWhy::Spent));
     }
@@ -101,9 +105,11 @@ fn drafted(
     let EpochEnd { pev, rv } = ends;
     let generation = generation_of(epoch, shape, last, pev, rv);
     let mut state = found.state.copy()?;
+    // Dropped before the new generation is added, so that a full list can still take it.
     drop_popped(&mut state, shown, tags);
     match state.extend(generation) {
         Ok(()) => {
+            // Only logs whose replies fixed the end are read: another one may lack versions through `rv`.
             let logs = responders(alloc, end)?;
             let tail = Tail::new(alloc, tags, last.m(), last.k(), logs, pev, rv)?;
             Ok(Ok(Draft {
@@ -124,7 +130,10 @@ fn drop_popped(state: &mut CoordState, shown: &[PoppedTag], tags: u8)
     requires { tags ≤ MAX_SHARDS }
     ensures { state.new ≡ left_by state.old shown.now (range_with_len 0 tags) }
 {
+    // A tag that no reply showed might not be durable anywhere, so then nothing is dropped (invariant 10).
     if let Some(least) = least_shown(shown, tags) {
+        // `least + 1` is the lowest version that some storage server may still have to pull. Its source and all later
+        // generations stay (invariant 10).
         if let Some(source) = state.source_for(least.get() + 1) {
             state.drop_before(source.epoch());
         }
@@ -140,6 +149,7 @@ fn least_shown(shown: &[PoppedTag], tags: u8) -> Option<Version>
     for tag in 0..tags {
         match shown_of(shown, tag) {
             Some(version) => least = Some(lesser(least, version)),
+            // Not popped is less than popped through 0: nobody has said that the tag is durable at all.
             None => return None,
         }
     }
@@ -150,6 +160,7 @@ fn least_shown(shown: &[PoppedTag], tags: u8) -> Option<Version>
 fn lesser(least: Option<Version>, version: Version) -> Version
     ensures { result ≡ lesser least version }
 {
+    // The least over the tags, because the slowest storage server decides what may go (invariant 10).
     match least {
         Some(least) => least.min(version),
         None => version,
@@ -163,6 +174,8 @@ fn shown_of(shown: &[PoppedTag], tag: u8) -> Option<Version>
     let mut greatest = None;
     for entry in shown {
         if entry.tag.get() == tag {
+            // The greatest, because one log may have missed a Pop that another took: what a Pop says is true of the
+            // storage server, and not of the log.
             greatest = Some(greater(greatest, entry.version));
         }
     }
@@ -201,10 +214,12 @@ fn generation_of(
     } }
     ensures limits { IsGeneration result }
 {
+    // Without a shape it keeps the old one, so that whoever starts a recovery need not know the state.
     let (m, k) = match shape {
         Some(shape) => (shape.m(), shape.k()),
         None => (last.m(), last.k()),
     };
+    // Through `pev` everything is known to be committed, and stays with the old generations.
     let Some(first) = pev.after() else {
         unreachable!();
     };
@@ -214,7 +229,6 @@ fn generation_of(
     }
 }
 
-/// The logs that replied.
 fn responders(alloc: Global, end: &EndTally) -> Result<Vec<u8>, Memory>
     ensures { IfOk result (λ logs. logs.items ≡ responders end.now) }
 {
@@ -235,6 +249,8 @@ pub(crate) fn copy_asks(
     requires limits { IsGeneration draft.now.generation }
     ensures { IfOk result (λ asks. asks.items ≡ copy_asks epoch old tags seeded.now (plan_in draft.now)) }
 {
+    // Already at the start if `pev` is `rv`. Then nothing is to be copied, and no reply would come to move the
+    // recovery on.
     if draft.tail.complete() {
         seeds(alloc, epoch, draft.generation, &draft.tail, seeded)
     } else {

@@ -16,7 +16,7 @@ pub enum ReplyFault {
     /// The generation has no log of this number.
     #[error("Stranger")]
     Stranger,
-    /// The log replied otherwise before.
+    /// The log replied otherwise before, which a locked log never does.
     #[error("Differs")]
     Differs,
 }

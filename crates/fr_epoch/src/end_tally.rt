@@ -9,10 +9,10 @@ use fr_base::Version;
 use fr_tags::{MAX_LOGS, covers};
 use std::marker::Model;
 
-/// How many logs can reply at most.
+/// The most logs that a generation has.
 const PLACES: usize = 16;
 
-/// The entry of a log without a reply.
+/// Fills the places behind `count`; never read.
 const NO_REPLY: Reply = Reply {
     log: 0,
     durable: Version::ZERO,
@@ -60,7 +60,7 @@ impl EndTally {
         }
     }
 
-    /// How many logs the generation has.
+    /// Logs of the generation, from 1 to 16.
     pub fn m(&self) -> u8
         ensures value { result ≡ self.now.m }
         ensures sound { IsEnd self.now }
@@ -68,7 +68,7 @@ impl EndTally {
         self.m
     }
 
-    /// On how many of them each tag is.
+    /// Logs on which each tag is, from 1 to `m`.
     pub fn k(&self) -> u8
         ensures value { result ≡ self.now.k }
         ensures sound { IsEnd self.now }
@@ -86,6 +86,8 @@ impl EndTally {
         ensures kept { OnErr result (self.new ≡ self.old) }
         ensures counted { self.new ≡ with_reply self.old (record { log = index; durable = durable; known = known }) }
     {
+        // Before the replies are looked at: a stranger's reply must count neither as a repeat nor as one that
+        // differs.
         if index >= self.m {
             return Err(ReplyFault::Stranger);
         }
@@ -99,6 +101,8 @@ impl EndTally {
                 if held.durable == durable && held.known == known {
                     Ok(())
                 } else {
+                    // A locked log gives one answer for good, so this one comes from something else. The first stays
+                    // (invariant 4).
                     Err(ReplyFault::Differs)
                 }
             }
@@ -115,6 +119,7 @@ impl EndTally {
         requires first { has_replied self.old reply.log ≡ false }
         ensures { self.new ≡ with_reply self.old reply }
     {
+        // There is room, since each of at most 16 logs is counted once. The array keeps the tally free of memory.
         self.places[self.count] = reply;
         self.count += 1;
     }
@@ -153,10 +158,11 @@ impl EndTally {
         log < self.m() && !self.has_replied(log)
     }
 
-    /// Whether the replies cover.
+    /// Whether more than `m - k` logs replied. Then each tag has a holder among them, since it is on k of m logs.
     pub fn is_covered(&self) -> bool
         ensures { result ≡ is_covered self.now }
     {
+        // Copied into an array, because `covers` takes plain numbers and the tally takes no memory.
         let mut logs = [0; PLACES];
         for i in 0..self.count {
             logs[i] = self.places[i].log;
@@ -171,8 +177,12 @@ impl EndTally {
         if !self.is_covered() {
             return Ok(None);
         }
+        // The greatest: what one log knows to be committed is committed.
         let pev = greatest_known(self.replies());
+        // The least: an acknowledged version is held by all m logs, so by each that replied, and a version above it
+        // was not acknowledged.
         let rv = least_durable(self.replies());
+        // `<`: at equality all that is taken over is known to be committed, so there is nothing to copy.
         if rv < pev {
             Err(Inconsistent)
         } else {
@@ -180,7 +190,7 @@ impl EndTally {
         }
     }
 
-    /// An equal tally. It takes no memory.
+    /// It takes no memory.
     pub fn copy(&self) -> Self
         ensures { result ≡ self.now }
     {
@@ -214,6 +224,7 @@ fn greatest_known(replies: &[Reply]) -> Version
 fn least_durable(replies: &[Reply]) -> Version
     ensures { result ≡ least_durable replies.now }
 {
+    // Begun with the first reply and not with 0, which would be the least of all.
     let [first, others @ ..] = replies else {
         return Version::ZERO;
     };

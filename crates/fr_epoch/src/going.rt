@@ -13,6 +13,7 @@ pub(crate) fn completes(tail: &Tail, index: u8, peeked: &Peeked) -> bool
     ensures { result ≡ is_complete (after_hear tail.now index peeked.now.tag peeked.now) }
 {
     for number in 0..tail.tags() {
+        // Worked out beforehand, so that the seeds can be made before the copy changes (invariant 11).
         if reached_with(tail, index, peeked, tag_at(number)) != tail.rv() {
             return false;
         }
@@ -25,6 +26,7 @@ pub(crate) fn reached_with(tail: &Tail, index: u8, peeked: &Peeked, tag: Tag) ->
     ensures { result ≡ reached_with tail.now index peeked.now tag }
 {
     if tag == peeked.tag() && goes_on(tail, index, peeked) {
+        // Cut at `rv`: a log of the old generation may hold more, which is not taken over.
         earlier(peeked.upto(), tail.rv())
     } else {
         tail.reached(tag)
@@ -36,6 +38,8 @@ fn goes_on(tail: &Tail, index: u8, peeked: &Peeked) -> bool
     ensures { result ≡ goes_on tail.now index peeked.now }
 {
     let after = peeked.after();
+    // The answer has to begin exactly where the copy ends, and bring something: else there would be a hole, or the
+    // same peek would be sent again for ever.
     let is_next = after == tail.reached(peeked.tag()) && after < tail.rv() && after < peeked.upto();
     is_responder(tail, index, peeked.tag()) && is_next
 }
@@ -49,7 +53,6 @@ fn is_responder(tail: &Tail, index: u8, tag: Tag) -> bool
         && usize::from(tag.get()) < tail.tags()
 }
 
-/// The lesser of two versions.
 fn earlier(a: Version, b: Version) -> Version
     ensures { result ≡ min a b }
 {

@@ -60,6 +60,8 @@ impl Standing {
         ensures state { OnOk result (state_of self.new ≡ after_hear (state_of self.old) (NodeId.Cell index) (Tell.Cell tell)) }
         ensures err { OnErr result (state_of self.new ≡ state_of self.old) }
     {
+        // A Promise that comes late is dropped, since the parent is read. A Refused counts while it writes too,
+        // whichever request it answers: a greater ballot is on its way.
         match self.stage {
             Stage::Reading => self.hear_promise(alloc, index, tell),
             Stage::Writing => self.hear_vote(alloc, index, tell),
@@ -81,6 +83,7 @@ impl Standing {
         ensures state { OnOk result (state_of self.new ≡ after_hear (state_of self.old) (NodeId.Log epoch index) (Tell.Log tell)) }
         ensures err { OnErr result (state_of self.new ≡ state_of self.old) }
     {
+        // Which replies count depends on the phase, so a late one of an earlier phase changes nothing (invariant 1).
         match self.stage {
             Stage::Locking => match tell {
                 LogTell::Locked {

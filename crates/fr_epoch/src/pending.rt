@@ -23,11 +23,11 @@ impl Standing {
             Stage::Copying => self.copies_left(alloc),
             Stage::Writing => self.writes_left(alloc),
             Stage::Chosen => self.marks_left(alloc),
+            // Whatever it sent may still arrive, but it wants no reply to it.
             Stage::Lost { .. } => Ok(Vec::new(alloc)),
         }
     }
 
-    /// The locks that were not answered.
     fn locks_left(&self, alloc: Global) -> Result<Vec<(NodeId, Ask)>, Memory>
         requires { IsKept (state_of self.now) }
         ensures { IfOk result (λ asks. asks.items ≡ locks_of (state_of self.now).parent (state_of self.now).end) }
@@ -49,6 +49,7 @@ impl Standing {
         let Some(draft) = &self.plan else {
             return Ok(Vec::new(alloc));
         };
+        // Seeds and peeks are never wanted together, since seeds need the whole copy (invariant 5).
         if draft.tail.complete() {
             return seeds(
                 alloc,
@@ -69,7 +70,6 @@ impl Standing {
         }
     }
 
-    /// The writes that were not answered.
     pub(crate) fn writes_left(&self, alloc: Global) -> Result<Vec<(NodeId, Ask)>, Memory>
         ensures { IfOk result (λ asks. asks.items ≡ writes_of (state_of self.now) (state_of self.now).plan) }
     {
@@ -85,6 +85,7 @@ impl Standing {
         ensures { IfOk result (λ asks. asks.items ≡ marks_of (state_of self.now) (state_of self.now).plan) }
     {
         match &self.plan {
+            // Pushed until each log said Held, because a log takes no commit before its mark.
             Some(draft) => marks(alloc, self.epoch, draft, self.marked.as_slice()),
             None => Ok(Vec::new(alloc)),
         }

@@ -16,7 +16,7 @@ pub enum Phase {
     /// Its state is chosen, and it pushes the mark: through `pev` all is known to be committed, and
     /// nothing above `rv` is.
     Chosen { pev: Version, rv: Version },
-    /// It gave up.
+    /// It gave up, and wants no reply any more. What it wrote may still be chosen.
     Lost { why: LostWhy },
 }
 

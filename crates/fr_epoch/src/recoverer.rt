@@ -68,6 +68,7 @@ impl Recoverer {
         requires used { ballot ≢ 0 }
         ensures { result ≡ new_recoverer ballot coordinators map shape }
     {
+        // Ballot 0 belongs to a cell that was never asked, and is no epoch.
         let Some(epoch) = ballot.epoch() else {
             unreachable!();
         };
@@ -80,6 +81,8 @@ impl Recoverer {
                 epoch,
                 map,
                 shape,
+                // Nothing is sent here: the first requests are what `pending` lists, so a start and a repeat are the
+                // same.
                 stage: Stage::Reading,
                 reads: ReadTally::new(alloc, coordinators, ballot),
                 parent: None,
@@ -139,14 +142,14 @@ impl Recoverer {
         self.standing.epoch.ballot()
     }
 
-    /// How many coordinators' cells it asks.
+    /// Coordinators' cells, of which more than half decide.
     pub fn coordinators(&self) -> u8
         ensures { result ≡ self.now.reads.poll.cells }
     {
         self.standing.reads.poll().cells()
     }
 
-    /// How the keys are cut into shards.
+    /// The shards of the keys: tag t is the shard of number t.
     pub fn map(&self) -> &ShardMap
         ensures { result.now ≡ self.now.begins }
     {
@@ -158,6 +161,8 @@ impl Recoverer {
         ensures { result ≡ generation_in self.now.plan }
     {
         match &self.standing.plan {
+            // Given from the plan on, because whoever makes the new logs has to know their number before they are
+            // seeded.
             Some(draft) => Some(draft.generation),
             None => None,
         }
@@ -168,6 +173,7 @@ impl Recoverer {
         ensures { result ≡ is_copied self.now }
     {
         match &self.standing.plan {
+            // Its first Seed may be on its way from then on, so the logs have to be there.
             Some(draft) => draft.tail.complete(),
             None => false,
         }
@@ -178,12 +184,13 @@ impl Recoverer {
         ensures { result ≡ is_chosen_in self.now.phase }
     {
         match self.standing.stage {
+            // Not by the plan: a state may be chosen while its recoverer is lost, but then nobody knows it yet.
             Stage::Chosen => true,
             _ => false,
         }
     }
 
-    /// An equal recoverer.
+    /// An equal recoverer. It costs a copy of all that was copied of the old epoch so far.
     pub fn copy(&self, alloc: Global) -> Result<Self, Memory>
         ensures { IfOk result (λ copy. copy ≡ self.now) }
     {
@@ -208,7 +215,6 @@ impl Standing {
         }
     }
 
-    /// An equal state of an equal recoverer.
     fn copy(&self, alloc: Global) -> Result<Self, Memory>
         ensures { IfOk result (λ copy. state_of copy ≡ state_of self.now) }
     {

@@ -27,29 +27,26 @@ pub(crate) struct Draft {
 /// The state of a recoverer.
 #[derive(Debug, Drop)]
 pub(crate) struct Standing {
-    /// Its epoch.
+    /// Its ballot: the attempt and the epoch that it opens have one number.
     pub(crate) epoch: Epoch,
-    /// How the keys are cut into shards.
+    /// Tag t is the shard of number t. Only how many there are matters to it.
     pub(crate) map: ShardMap,
     /// The shape that the next generation is to have, if one was given.
     pub(crate) shape: Option<Shape>,
-    /// How far it is.
     pub(crate) stage: Stage,
-    /// Its tally of promises.
     pub(crate) reads: ReadTally,
-    /// What the promises told.
+    /// None in Reading; fixed by the majority of promises.
     pub(crate) parent: Option<Found>,
-    /// The replies to its locks.
+    /// From Locking on: the replies of the logs of the parent's last generation, the first of each.
     pub(crate) end: Option<EndTally>,
     /// What these replies showed popped, as it came: at most 16 times 32 entries, read once, for the plan. So the
     /// tally takes no memory.
     pub(crate) shown: Vec<PoppedTag>,
-    /// Its plan.
+    /// From Copying on; then its state and its generation never change.
     pub(crate) plan: Option<Draft>,
-    /// The new logs that are seeded.
+    /// Numbers of new logs that answered Seeded, each once.
     pub(crate) seeded: Vec<u8>,
-    /// Its tally of writes.
     pub(crate) writes: WriteTally,
-    /// The new logs that hold the mark.
+    /// Numbers of new logs that answered Held of the mark, each once.
     pub(crate) marked: Vec<u8>,
 }

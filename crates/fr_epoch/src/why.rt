@@ -5,7 +5,7 @@ use thiserror::Error;
 /// `Spent`, `NotLater`, `TooMany`.
 #[derive(Clone, Copy, Debug, PartialEq, Eq, Error)]
 pub enum LostWhy {
-    /// A cell promised a greater ballot.
+    /// A cell promised a greater ballot, so another attempt is on its way.
     #[error("Outballoted")]
     Outballoted,
     /// What the cells hold is no state.
@@ -20,7 +20,7 @@ pub enum LostWhy {
     /// The next generation would not be later than the last one.
     #[error("NotLater")]
     NotLater,
-    /// A cell holds another value under this ballot.
+    /// A cell holds another value under this ballot: somebody used the ballot twice.
     #[error("TwoValues")]
     TwoValues,
     /// The version of the mark would be past the greatest one.

@@ -42,7 +42,7 @@ impl Most {
         }
     }
 
-    /// The number.
+    /// Records, from 1 to 100.
     pub fn get(self) -> u8
         ensures value { result ≡ self }
         ensures within { (1 ≤ result) × (result ≤ 100) }
@@ -51,7 +51,7 @@ impl Most {
     }
 }
 
-/// What a log is asked.
+/// A request to a log.
 #[derive(Clone, Debug, Drop, PartialEq, Eq)]
 pub enum LogAsk {
     /// To take what an epoch takes over from the one before.
@@ -109,12 +109,12 @@ impl LogAsk {
     }
 }
 
-/// What a log tells.
+/// The reply of a log.
 #[derive(Clone, Debug, Drop, PartialEq, Eq)]
 pub enum LogTell {
-    /// It holds the seed.
+    /// It holds exactly this seed, taken now or before.
     Seeded,
-    /// It holds the push of this version.
+    /// It holds the push of this version. That alone does not commit it: all logs of the epoch have to hold it.
     Held {
         version: Version,
     },
@@ -154,22 +154,22 @@ impl LogTell {
 /// Why a log did not do as asked. Of several reasons the first in the order of these variants is told.
 #[derive(Clone, Copy, Debug, PartialEq, Eq)]
 pub enum LogRefusal {
-    /// The ask is for another epoch.
+    /// The request is for another epoch: it is not a matter of this log, whatever its state.
     WrongEpoch,
-    /// It has no seed yet.
+    /// It has no seed yet, so it does not know where its chain begins.
     Unseeded,
-    /// It was locked.
+    /// It was locked, and stays so: the epoch is over, so no repeat will be taken.
     Stopped,
     /// The push is not held, and its `prev` is below the greatest version held; or it is a mark
     /// that does not follow the seed at once.
     Stale,
     /// Pushes before this one are missing; the greatest version held.
     Gap { durable: Version },
-    /// It does not hold the tag.
+    /// Placement puts the tag on other logs.
     NotMine,
     /// The peek begins below the epoch's first version, which is told.
     TooEarly { first: Version },
-    /// It holds another seed.
+    /// It holds another seed. A recovery gives each log one, so one of the two is of no recovery.
     SeedDiffers,
     /// There is no mark before this push, or none to tell of.
     NoMark,

@@ -96,7 +96,7 @@ impl Log {
         }
     }
 
-    /// Its epoch and its number there.
+    /// Its epoch, and its number there, from 0.
     pub fn id(&self) -> LogId
         ensures epoch { result.epoch ≡ self.now.epoch }
         ensures index { result.index ≡ self.now.index }
@@ -105,7 +105,7 @@ impl Log {
         self.id
     }
 
-    /// How many logs the generation has.
+    /// Logs of the generation, from 1 to 16.
     pub fn m(&self) -> u8
         ensures value { result ≡ self.now.m }
         ensures sound { IsLog self.now }
@@ -113,7 +113,7 @@ impl Log {
         self.shape.m()
     }
 
-    /// On how many logs each tag is.
+    /// Logs on which each tag is, from 1 to `m`.
     pub fn k(&self) -> u8
         ensures value { result ≡ self.now.k }
         ensures sound { IsLog self.now }
@@ -121,7 +121,7 @@ impl Log {
         self.shape.k()
     }
 
-    /// Whether it has a seed.
+    /// Whether it has a seed; once it has, it always has that one.
     pub fn seeded(&self) -> bool
         ensures value { result ≡ is_some self.now.seed }
         ensures sound { IsLog self.now }
@@ -145,7 +145,7 @@ impl Log {
         self.known
     }
 
-    /// Whether it was locked.
+    /// Whether it was locked; then it never takes a new push.
     pub fn stopped(&self) -> bool
         ensures value { result ≡ self.now.stopped }
         ensures sound { IsLog self.now }
@@ -166,11 +166,13 @@ impl Log {
         ensures after { self.new ≡ swept self.old }
         ensures sound { IsLog self.new }
     {
+        // Invariant 7: batches alone go. The headers stay, because they recognize a repeated push.
         self.pushes.sweep(self.popped.as_slice());
+        // A storage server pulls seeded and pushed records by the same peeks, so one popped version covers both.
         sweep_seed(&mut self.seed, self.popped.as_slice());
     }
 
-    /// An equal log.
+    /// An equal log. It costs all that the log holds.
     pub fn copy(&self) -> Result<Self, Memory>
         ensures { IfOk result (λ log. log ≡ self.now) }
     {
@@ -180,6 +182,8 @@ impl Log {
     fn holds(&self, tag: Tag) -> bool
         ensures { result ≡ holds self.now tag }
     {
+        // Asked of the placement and not of what was pushed, because an idle tag has no records and may be peeked all
+        // the same.
         is_held(tag, self.shape.m(), self.shape.k(), self.id.index)
     }
 
@@ -198,6 +202,8 @@ impl Log {
     fn is_push_held(&self, push: &Push) -> bool
         ensures { result ≡ is_push_held self.now push.now }
     {
+        // `popped` goes along because the held push may have lost batches that the repeated one still carries
+        // (invariant 7).
         self.pushes.has(push, self.popped.as_slice())
     }
 
@@ -220,6 +226,7 @@ impl Log {
     fn seeded_to(&self) -> Version
         ensures { result ≡ seeded_to_of self.now.seed }
     {
+        // 0 stands for no seed: no request that reads it gets past the test for Unseeded.
         self.seed
             .as_ref()
             .map_or(Version::ZERO, |seed| seed.seeded_to())

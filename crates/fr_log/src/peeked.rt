@@ -49,6 +49,8 @@ impl Peeked {
         ensures value { IfSome result (λ p. p ≡ record { tag = tag; after = after; records = records.items; upto = upto; known = known }) }
     {
         let is_list = is_rising_above(after, &records) && are_through(upto, &records);
+        // The limit is tested here because answers also arrive from files and other processes, which may hold
+        // anything.
         if is_list && records.len() <= MAX_PEEKED {
             Some(Peeked::from_ordered(tag, after, records, upto, known))
         } else {
@@ -76,7 +78,7 @@ impl Peeked {
         }
     }
 
-    /// The tag that was peeked.
+    /// The tag of all its records.
     pub fn tag(&self) -> Tag
         ensures value { result ≡ self.now.tag }
         ensures sound { IsPeeked self.now }
@@ -84,7 +86,7 @@ impl Peeked {
         self.tag
     }
 
-    /// The version above which the records are.
+    /// The caller has all through this version; each record is above it.
     pub fn after(&self) -> Version
         ensures value { result ≡ self.now.after }
         ensures sound { IsPeeked self.now }
@@ -92,7 +94,7 @@ impl Peeked {
         self.after
     }
 
-    /// The records, by version.
+    /// At most 100, by strictly rising versions above `after` and through `upto`.
     pub fn records(&self) -> &[PeekedRecord]
         ensures value { result.now ≡ self.now.records }
         ensures sound { IsPeeked self.now }
@@ -100,7 +102,8 @@ impl Peeked {
         self.records.as_slice()
     }
 
-    /// The version through which the records are complete.
+    /// The tag has no other records above `after` and through this version. It may be above the last record, or there
+    /// may be none.
     pub fn upto(&self) -> Version
         ensures value { result ≡ self.now.upto }
         ensures sound { IsPeeked self.now }
@@ -123,7 +126,7 @@ impl Peeked {
         self.records
     }
 
-    /// An equal answer.
+    /// An equal answer. Batches that are shared stay so.
     pub fn copy(&self) -> Result<Self, Memory>
         ensures { IfOk result (λ peeked. peeked ≡ self.now) }
     {
@@ -171,6 +174,8 @@ fn is_rising_above(after: Version, records: &[PeekedRecord]) -> bool
 {
     let mut last = after;
     for record in records {
+        // Strictly, and above `after`: a store refuses a second batch at a version, so a repeated record would fail a
+        // server.
         if record.version <= last {
             return false;
         }

@@ -51,14 +51,14 @@ impl PoppedTags {
         PoppedTags { entries }
     }
 
-    /// The entries.
+    /// By rising tags; a tag that was never popped has no entry.
     pub fn as_slice(&self) -> &[PoppedTag]
         ensures { result.now ≡ self.now }
     {
         self.entries.as_slice()
     }
 
-    /// Equal entries.
+    /// An equal list, of at most 32 entries.
     pub fn copy(&self) -> Result<Self, Memory>
         ensures { IfOk result (λ copy. copy ≡ self.now) }
     {
@@ -72,9 +72,11 @@ impl PoppedTags {
     {
         let at = place_of(&self.entries, tag);
         if at < self.entries.len() && self.entries[at].tag == tag {
+            // In place, so that a repeated Pop takes no memory.
             self.entries[at] = PoppedTag { tag, version };
             return Ok(());
         }
+        // At its place in the order of tags: logs popped alike must compare equal, in whatever order the Pops came.
         self.entries.insert(at, PoppedTag { tag, version })?;
         Ok(())
     }
@@ -141,10 +143,11 @@ pub(crate) fn popped_at(popped: &[PoppedTag], tag: Tag) -> Version
     popped_of(popped, tag).unwrap_or(Version::ZERO)
 }
 
-/// Whether a record of a seed is left.
+/// Whether a record of a seed is above the version through which its tag is popped.
 pub(crate) fn is_left(popped: &[PoppedTag], seeded: &SeedRecord) -> bool
     ensures { result ≡ is_left popped.now seeded.now }
 {
+    // `<` and not `<=`: the popped version itself is durable on the storage server, and freed here.
     popped_at(popped, seeded.tag) < seeded.version
 }
 
@@ -173,6 +176,8 @@ pub(crate) fn have_same_left(
 {
     let mut left = from_left(popped, others);
     for record in records {
+        // Only what is left counts on both sides, because the held seed may have been swept and the repeated one was
+        // not (invariant 7).
         if is_left(popped, record) {
             match left {
                 [other, rest @ ..] => {

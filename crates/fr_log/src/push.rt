@@ -71,6 +71,7 @@ impl Push {
     {
         // Only `Step` says how far one step goes.
         let is_step = Step::between(prev, version).is_some();
+        // `known <= prev`: a commit is not known to be committed before it is pushed. Invariant 3 rests on this.
         if is_step && known <= prev && is_rising(&bodies) {
             Some(Push {
                 epoch,
@@ -97,6 +98,8 @@ impl Push {
         ensures within { IsSome result ↔ ((known ≤ prev) × (prev + 1 < 2 ^ 62)) }
         ensures value { IfSome result (λ p. p ≡ record { epoch = epoch; prev = prev; version = prev + 1; known = known; bodies = []; mark = Some state }) }
     {
+        // The addition cannot overflow, since a version is below 2^62. The limit itself may be met: then there is no
+        // mark.
         let version = Version::new(prev.get() + 1)?;
         if known <= prev {
             Some(Push {
@@ -112,7 +115,7 @@ impl Push {
         }
     }
 
-    /// The epoch of the log.
+    /// The epoch of the log for which it is: logs of other epochs refuse it.
     pub fn epoch(&self) -> Epoch
         ensures value { result ≡ self.now.epoch }
         ensures sound { IsPush self.now }
@@ -128,7 +131,7 @@ impl Push {
         self.prev
     }
 
-    /// The version of the commit.
+    /// The version of the commit: above `prev`, by 1,000,000 at most.
     pub fn version(&self) -> Version
         ensures value { result ≡ self.now.version }
         ensures sound { IsPush self.now }
@@ -136,7 +139,8 @@ impl Push {
         self.version
     }
 
-    /// The greatest version that the sender knows to be committed.
+    /// The greatest version that the sender knows to be committed, at most `prev`. It is no part of the push's
+    /// identity.
     pub fn known(&self) -> Version
         ensures value { result ≡ self.now.known }
         ensures sound { IsPush self.now }
@@ -144,7 +148,7 @@ impl Push {
         self.known
     }
 
-    /// What the commit changes, by tag.
+    /// The changes by rising tags, at most one batch a tag; a mark has none.
     pub fn bodies(&self) -> &[Body]
         ensures value { result.now ≡ self.now.bodies }
         ensures sound { IsPush self.now }
@@ -152,7 +156,7 @@ impl Push {
         self.bodies.as_slice()
     }
 
-    /// The coordinated state of a mark.
+    /// The coordinated state, if this is a mark: then a majority of the coordinators holds that state.
     pub fn marked(&self) -> Option<&CoordState>
         ensures value { option_copied result ≡ self.now.mark }
         ensures sound { IsPush self.now }
@@ -187,6 +191,8 @@ impl Push {
     pub(crate) fn is_headed(&self, header: &PushHeader) -> bool
         ensures { result ≡ is_headed self.now header.now }
     {
+        // `known` is left out: it tells what the sender knew when it sent, and a repeat must not be refused because
+        // of it.
         self.epoch == header.epoch
             && self.prev == header.prev
             && self.version == header.version
@@ -204,7 +210,7 @@ impl Push {
             && self.mark == other.mark
     }
 
-    /// An equal push.
+    /// An equal push: one commit goes to several logs, and may be sent again.
     pub fn copy(&self) -> Result<Self, Memory>
         ensures { IfOk result (λ push. push ≡ self.now) }
     {
@@ -243,12 +249,12 @@ impl Eq for Push {
     ghost laws = { IsSameness-equivalence is_same_push-IsSameness };
 }
 
-/// Whether the tags of bodies rise strictly.
 fn is_rising(bodies: &[Body]) -> bool
     ensures { result ≡ is_rising_from 0 bodies.now }
 {
     let mut least = 0;
     for body in bodies {
+        // Strictly: a second body of one tag would take the place of the first on its shelf (invariant 11).
         if body.tag.get() < least {
             return false;
         }

@@ -25,9 +25,10 @@ use shelf::Shelf;
 use std::alloc::{AllocError, Global};
 use std::marker::Model;
 
-/// The pushes that a log holds, by rising versions. Their headers are in one list, the oldest first. Their
-/// batches are on shelves, one for each tag up to the greatest that was pushed, so that the records of a
-/// tag are found without a walk of what other tags were pushed. Contracts see the list of the pushes.
+/// The pushes that a log holds, by rising versions. Their headers are in one list, the oldest first. Their batches
+/// are on shelves, one for each tag up to the greatest that was pushed, so that the records of a tag are found
+/// without a walk of what other tags were pushed. Contracts see the list of the pushes. One map from tag and version
+/// would scatter the range of a peek.
 #[derive(Debug, Drop)]
 pub(crate) struct Pushes {
     headers: Headers,
@@ -57,7 +58,6 @@ impl Pushes {
         }
     }
 
-    /// How many there are.
     pub(crate) fn len(&self) -> usize
         ensures { result ≡ length self.now }
     {
@@ -76,6 +76,7 @@ impl Pushes {
     pub(crate) fn has(&self, push: &Push, popped: &[PoppedTag]) -> bool
         ensures { result ≡ is_found popped.now push.now self.now }
     {
+        // Headers first, since a new push has none: it is told apart by one search, without a look at the shelves.
         self.headers.heads(push)
             && have_bodies(&self.shelves, push.version(), push.bodies(), popped)
     }
@@ -90,8 +91,11 @@ impl Pushes {
         let version = push.version();
         let count = self.headers.len();
         let (header, bodies) = push.into_parts();
+        // The header is added first, and is taken back if a shelf cannot grow: a header without its batches would
+        // break invariant 11.
         self.headers.push(header)?;
         if let Err(fault) = put_all(alloc, &mut self.shelves, version, bodies) {
+            // All held before is below `version`, so only batches of this push go.
             cut_all(&mut self.shelves, version);
             self.headers.truncate(count);
             return Err(fault);
@@ -110,6 +114,7 @@ impl Pushes {
     pub(crate) fn truncate(&mut self, left: usize)
         ensures { self.new ≡ take left self.old }
     {
+        // By version and not by count, because a push has batches on some shelves only.
         if let Some(from) = self.headers.truncate(left) {
             cut_all(&mut self.shelves, from);
         }
@@ -133,6 +138,7 @@ impl Pushes {
     {
         match self.shelves.get(usize::from(tag.get())) {
             Some(shelf) => shelf.gather(after, most, given),
+            // Shelves reach to the greatest tag that was pushed. Beyond them no push had a body.
             None => Ok(false),
         }
     }
@@ -158,6 +164,8 @@ fn have_bodies(shelves: &[Shelf], version: Version, bodies: &[Body], popped: &[P
 {
     let mut left = from_left(bodies, version, popped);
     for number in 0..shelves.len() {
+        // Popped batches are skipped on both sides: they are freed here, while the repeated push still has them
+        // (invariant 7).
         if through(number, popped) < version {
             if let Some(batch) = shelves[number].at(version) {
                 match left {
@@ -172,6 +180,7 @@ fn have_bodies(shelves: &[Shelf], version: Version, bodies: &[Body], popped: &[P
             }
         }
     }
+    // A body left over has no batch here, so the push is another one.
     left.is_empty()
 }
 
@@ -239,6 +248,7 @@ fn grow(alloc: Global, shelves: &mut Vec<Shelf>, number: usize) -> Result<(), Me
     ensures room { OnOk result (number < length shelves.new.items) }
     ensures same { (t : ℕ) → shelf_of shelves.new.items t ≡ shelf_of shelves.old.items t }
 {
+    // A shelf stands at the number of its tag, so those between are made as well. There are at most 32.
     while shelves.len() <= number {
         shelves.push(Shelf::new(alloc))?;
     }

@@ -13,7 +13,7 @@ pub struct SeedRecord {
 }
 
 impl SeedRecord {
-    /// An equal record.
+    /// An equal record. A batch that is shared stays so.
     pub fn copy(&self) -> Result<Self, Memory>
         ensures { IfOk result (λ copy. copy ≡ self.now) }
     {
@@ -29,7 +29,7 @@ pub struct PeekedRecord {
 }
 
 impl PeekedRecord {
-    /// An equal record.
+    /// An equal record. A batch that is shared stays so.
     pub fn copy(&self) -> Result<Self, Memory>
         ensures { IfOk result (λ copy. copy ≡ self.now) }
     {

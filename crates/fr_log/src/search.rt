@@ -8,11 +8,12 @@ use crate::records::{PeekedRecord, SeedRecord};
 use fr_base::{Memory, Tag, Version};
 use std::alloc::Global;
 
-/// The records of a seed above a version.
+/// The records of a seed above a version, found by halving.
 pub(crate) fn seeded_above(records: &[SeedRecord], after: Version) -> &[SeedRecord]
     requires { IsNonDecreasingBy (λ r. r.version) records.now }
     ensures { result.now ≡ filter (λ r. nat_lt after r.version) records.now }
 {
+    // `<=` leaves out the record at `after`, which the caller has.
     let at = records.partition_point(|record| record.version <= after);
     &records[at..]
 }
@@ -35,6 +36,8 @@ pub(crate) fn gather(
         (filter (λ p. nat_lt after p.version) pushes.now)))) }
 {
     let mut given = Vec::new(alloc);
+    // The seed comes first, because its versions are at most `seeded_to` and those of pushes above (invariant 1): so
+    // the records rise.
     if gather_seeded(alloc, records, tag, most, &mut given)? {
         return Ok((given, true));
     }
@@ -74,9 +77,12 @@ pub(crate) fn upto(given: &[PeekedRecord], more: bool, durable: Version) -> Vers
     ensures { result ≡ (if more then fold (λ version r. r.version) durable given.now else durable) }
 {
     if !more {
+        // Nothing was left out, so the answer is complete through all that the log holds. Otherwise the storage
+        // server of an idle tag would never advance.
         return durable;
     }
     match given.last() {
+        // More of the tag's records remain, so the answer may claim no version past the last one given.
         Some(last) => last.version,
         None => durable,
     }

@@ -45,6 +45,7 @@ impl Seed {
         ensures within { IsSome result ↔ IsSeed (record { epoch = epoch; first = first; seeded_to = seeded_to; records = records.items }) }
         ensures value { IfSome result (λ s. s ≡ record { epoch = epoch; first = first; seeded_to = seeded_to; records = records.items }) }
     {
+        // `first` may be `seeded_to + 1`: then the epoch takes over nothing, because all was known to be committed.
         let is_range = 1 <= first.get() && first.get() <= seeded_to.get() + 1;
         if is_range && is_rising(&records) && are_within(first, seeded_to, &records) {
             Some(Seed {
@@ -58,7 +59,7 @@ impl Seed {
         }
     }
 
-    /// The epoch of the log.
+    /// The epoch of the log for which it is: logs of other epochs refuse it.
     pub fn epoch(&self) -> Epoch
         ensures value { result ≡ self.now.epoch }
         ensures sound { IsSeed self.now }
@@ -66,7 +67,7 @@ impl Seed {
         self.epoch
     }
 
-    /// The version at which the epoch starts.
+    /// The first version that the epoch is answerable for: the recovery's `pev + 1`, from 1 to `seeded_to + 1`.
     pub fn first(&self) -> Version
         ensures value { result ≡ self.now.first }
         ensures sound { IsSeed self.now }
@@ -82,7 +83,7 @@ impl Seed {
         self.seeded_to
     }
 
-    /// The records, by version and tag.
+    /// Strictly rising by (version, tag), with versions from `first` through `seeded_to`.
     pub fn records(&self) -> &[SeedRecord]
         ensures value { result.now ≡ self.now.records }
         ensures sound { IsSeed self.now }
@@ -108,6 +109,7 @@ impl Seed {
         if next.version < self.first || self.seeded_to < next.version {
             return Ok(false);
         }
+        // The last record is enough to compare with, since those before it rise by the type's invariant.
         if !may_follow(&self.records, &next) {
             return Ok(false);
         }
@@ -119,6 +121,7 @@ impl Seed {
     pub(crate) fn is_left_as(&self, other: &Seed, popped: &[PoppedTag]) -> bool
         ensures { result ≡ is_same_seed (left_seed popped.now self.now) (left_seed popped.now other.now) }
     {
+        // The records come last, because only they cost a walk.
         self.epoch == other.epoch
             && self.first == other.first
             && self.seeded_to == other.seeded_to
@@ -133,7 +136,7 @@ impl Seed {
         self.records.retain(|record| is_left(popped, record));
     }
 
-    /// An equal seed.
+    /// An equal seed: it may have to be sent again.
     pub fn copy(&self) -> Result<Self, Memory>
         ensures { IfOk result (λ seed. seed ≡ self.now) }
     {
@@ -173,13 +176,14 @@ impl Eq for Seed {
     ghost laws = { IsSameness-equivalence is_same_seed-IsSameness };
 }
 
-/// Whether records rise strictly by version and tag.
 fn is_rising(records: &[SeedRecord]) -> bool
     ensures { result ≡ is_rising_from 0 0 records.now }
 {
     let mut version = 0;
     let mut tag = 0;
     for record in records {
+        // Strictly by version and tag: a store refuses a second batch at a version, so a repeated record would fail a
+        // server.
         let is_above = version < record.version.get()
             || version == record.version.get() && tag <= record.tag.get();
         if !is_above {

@@ -1,4 +1,4 @@
-//! Mutations that act together.
+//! Mutations that act together. Each is within its limits by its type, so encoding it never overflows a field.
 ghost use Rattle.std.specs.Prelude.{◌≡◌, IfOk, OnOk, IfErr, None, Some, Err};
 ghost use Rattle.fr_mutation.specs.Limits.{batch_fault};
 ghost use Rattle.fr_mutation.specs.Held.{held};
@@ -23,7 +23,10 @@ pub struct Batch {
 
 /// The mutations of a batch: one that was made by `new` holds them alone, for that takes no memory, and
 /// a copy holds the one list of them with each copy of it.
-// A list of at most one, where an enum would do: whoever drops an enum has a case for each variant.
+///
+/// [`Batch::new`] takes no memory. A copy made before [`Batch::share`] is a new list of mutations, which its own
+/// copies share.
+// A list of at most one, where an enum would do: whoever drops an enum has a case for each variant, in every crate above.
 #[derive(Debug, Drop)]
 struct Held {
     alone: Vec<Mutation>,

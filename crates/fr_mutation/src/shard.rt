@@ -37,8 +37,9 @@ impl Shard {
     }
 }
 
-/// The batch as far as it acts on keys of the shard, in its order: without mutations of other keys, with
-/// clears cut to the shard, and without clears that then are of no key.
+/// The batch as far as it acts on keys of the shard, in its order: without mutations of other keys, with clears cut
+/// to the shard, and without clears that then are of no key. It asks that a shard's ends be keys, so that a clear
+/// that it cuts is within the limits; a `ShardMap` has such ends by its type.
 pub fn clip(alloc: Global, batch: &Batch, shard: &Shard) -> Result<Batch, Memory>
     requires { EndsFit shard.now }
     ensures { IfOk result (λ part. part ≡ clipped batch.now shard.now) }

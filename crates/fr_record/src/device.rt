@@ -47,7 +47,7 @@ pub trait Device: Drop {
         ensures failures { failures_of self.new ≡ counted (failures_of self.old) result }
         ensures led { Led self.old self.new };
 
-    /// Makes what was written outlast a crash.
+    /// What a read gives now outlasts a crash, if it answers `Ok`. After an error nothing more is known than before.
     fn sync(&mut self) -> Result<(), DeviceFault>
         ensures durable { OnOk result (IsDurable (disk self.new)) }
         ensures stands { Stands (disk self.old) (disk self.new) }
@@ -56,7 +56,7 @@ pub trait Device: Drop {
         ensures failures { failures_of self.new ≡ counted (failures_of self.old) result }
         ensures led { Led self.old self.new };
 
-    /// How many bytes there are.
+    /// Bytes, up to `capacity`. It may fail like a read.
     fn len(&mut self) -> Result<usize, DeviceFault>
         ensures len { IfOk result (λ n. n ≡ length (disk self.old).content) }
         ensures stands { Stands (disk self.old) (disk self.new) }

@@ -12,7 +12,7 @@ use std::marker::Model;
 #[derive(Drop)]
 pub struct FaultyDevice<D: Device> {
     device: D,
-    /// The number of the call that fails.
+    /// The number of the call that fails, from 1; with 0 none does.
     due: u64,
     /// Whether all later calls fail too.
     is_lasting: bool,
@@ -58,7 +58,7 @@ impl<D: Device> FaultyDevice<D> {
         self.calls
     }
 
-    /// Gives the device back.
+    /// The device below as it stands, with what its own calls did.
     pub fn into_inner(self) -> D
         ensures { result ≡ self.device }
     {
@@ -72,6 +72,7 @@ impl<D: Device> FaultyDevice<D> {
         ensures is_lasting { result.is_lasting ≡ is_lasting }
         ensures failures { result.failures ≡ D.failures_of device }
     {
+        // Begun with the count of the device below, so that to wrap one changes no count (invariant 8).
         let failures = device.failures();
         FaultyDevice {
             device,
@@ -91,11 +92,13 @@ impl<D: Device> FaultyDevice<D> {
         ensures is_lasting { self.new.is_lasting ≡ self.old.is_lasting }
         ensures failures { self.new.failures ≡ self.old.failures }
     {
+        // Counted whether it is passed on or not: the plan speaks of calls, and not of those that worked.
         self.calls = self.calls.saturating_add(1);
         let call = self.calls;
         if self.is_lasting {
             call < self.due
         } else {
+            // The number 0 is no call's, so with it none fails.
             call != self.due
         }
     }
@@ -114,6 +117,7 @@ impl<D: Device> Device for FaultyDevice<D> {
 
     fn read_at(&mut self, at: usize, buffer: &mut [u8]) -> Result<(), DeviceFault> {
         if !self.works() {
+            // Nothing was done below, so the failure is counted here alone (invariant 8).
             return count(&mut self.failures, Err(DeviceFault::Device));
         }
         let result = self.device.read_at(at, buffer);
@@ -130,6 +134,7 @@ impl<D: Device> Device for FaultyDevice<D> {
 
     fn sync(&mut self) -> Result<(), DeviceFault> {
         if !self.works() {
+            // A sync that fails promises nothing: the device below is not called, so it forgets no unsynced range.
             return count(&mut self.failures, Err(DeviceFault::Device));
         }
         let result = self.device.sync();

@@ -6,7 +6,7 @@ ghost use Rattle.fr_record.specs.Group.{records_of, places_of};
 
 use std::alloc::{AllocError, Global};
 
-/// Where the bytes of a record are.
+/// Where the bytes of a record are: their place in the file, and how many.
 #[derive(Clone, Copy, Debug, PartialEq, Eq)]
 pub(crate) struct Frame {
     pub(crate) at: usize,
@@ -19,9 +19,11 @@ pub(crate) fn behind_gate(alloc: Global, payload: &[u8]) -> Result<Vec<u8>, Allo
     ensures { IfOk result (λ bytes. bytes.items ≡ behind (payload.now ∷ [])) }
 {
     let len = payload.len() as u32;
+    // Taken at once, before anything is written (invariant 7): 4 bytes of length, the record, a closed gate.
     let mut bytes = Vec::with_capacity(alloc, payload.len() + 5)?;
     bytes.extend_from_slice(&len.to_be_bytes())?;
     bytes.extend_from_slice(payload)?;
+    // The closed gate goes with the record, so that the file is at rest once the first gate is open (invariant 4).
     bytes.push(0)?;
     Ok(bytes)
 }
@@ -32,6 +34,7 @@ fn push_frame(bytes: &mut Vec<u8>, payload: &[u8]) -> Result<(), AllocError>
     ensures { OnOk result (bytes.new.items ≡ bytes.old.items ++ frames (payload.now ∷ [])) }
 {
     let len = payload.len() as u32;
+    // Open from the start: within a group only the first gate is written later, and it decides for all (invariant 3).
     bytes.push(1)?;
     bytes.extend_from_slice(&len.to_be_bytes())?;
     bytes.extend_from_slice(payload)?;
@@ -44,6 +47,8 @@ pub(crate) fn framed_len(group: &[Vec<u8>]) -> usize
 {
     let mut len: usize = 0;
     for payload in group {
+        // It stays at the greatest number, which has room nowhere, so a group that long is `Full` and not wrapped
+        // round.
         len = len.saturating_add(payload.len().saturating_add(5));
     }
     len
@@ -76,6 +81,7 @@ pub(crate) fn add_places(table: &mut Vec<Frame>, gate: usize, group: &[Vec<u8>])
         };
         match table.push(place) {
             Ok(()) => {}
+            // Room was reserved before the file was written: after that nothing may fail (invariant 7).
             Err(_) => unreachable!(),
         }
         at += 5 + payload.len();

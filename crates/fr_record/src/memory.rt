@@ -45,6 +45,7 @@ impl MemoryDevice {
         ensures durable { IfOk result (λ m. IsDurable (disk_of m)) }
     {
         Ok(MemoryDevice {
+            // All of it now, since a write may answer `Full` but cannot answer `Memory`.
             bytes: Vec::with_capacity(alloc, capacity)?,
             synced: Vec::with_capacity(alloc, capacity)?,
             from: 0,
@@ -63,13 +64,15 @@ impl MemoryDevice {
         ensures capacity { self.new.capacity ≡ self.old.capacity }
     {
         fill_unsynced(&mut self.bytes, &self.synced, fill);
+        // Bytes below `from` are synced, so only those above need to be marked.
         let from = self.from;
         mark_synced(&mut self.synced, from);
         self.from = self.bytes.len();
+        // The device that is found after a crash is durable: what it holds then cannot be lost a second time.
         self.synced_len = self.bytes.len();
     }
 
-    /// Its bytes.
+    /// As a read would give them, synced or not.
     pub fn bytes(&self) -> &[u8]
         ensures { result.now ≡ self.now.bytes }
     {
@@ -94,11 +97,14 @@ impl Device for MemoryDevice {
     }
 
     fn write_at(&mut self, at: usize, bytes: &[u8]) -> Result<(), DeviceFault> {
+        // Compared so that nothing overflows: `at` is at most the length, and that at most the capacity.
         if bytes.len() > self.capacity - at {
             return Err(DeviceFault::Full);
         }
         overwrite(&mut self.bytes, at, bytes);
+        // A byte that is written again is unsynced again, whatever it was before.
         mark(&mut self.synced, at, bytes.len());
+        // `from` falls with the lowest byte written, so that a sync costs what was written since the last one.
         if at < self.from {
             self.from = at;
         }
@@ -106,6 +112,7 @@ impl Device for MemoryDevice {
     }
 
     fn sync(&mut self) -> Result<(), DeviceFault> {
+        // All that was written lies above `from`.
         let from = self.from;
         mark_synced(&mut self.synced, from);
         self.from = self.bytes.len();

@@ -12,9 +12,11 @@ pub(crate) fn overwrite(bytes: &mut Vec<u8>, at: usize, new: &[u8])
 {
     let kept = bytes.len() - at;
     if kept < new.len() {
+        // Cut and extended in the room that is reserved: `at` bytes stay, so nothing is moved and nothing can fail.
         bytes.truncate(at);
         match bytes.extend_from_slice(new) {
             Ok(()) => {}
+            // Its room was reserved when the device was made.
             Err(_) => unreachable!(),
         }
     } else {
@@ -44,7 +46,6 @@ pub(crate) fn mark(synced: &mut Vec<bool>, at: usize, n: usize)
     }
 }
 
-/// Marks all places from one on as synced.
 pub(crate) fn mark_synced(synced: &mut Vec<bool>, from: usize)
     requires within { from ≤ length synced.old.items }
     ensures len { length synced.new.items ≡ length synced.old.items }

@@ -28,14 +28,15 @@ fn load<D: Device>(alloc: Global, device: &mut D) -> Result<Vec<u8>, RecordFault
     ensures device { (result ≡ Err RecordFault.Device) → D.failures_of device.new ≡ min (D.failures_of device.old + 1) (2 ^ 64 - 1) }
     ensures no_failure { OnOk result (D.failures_of device.new ≡ D.failures_of device.old) }
 {
+    // First: what is read has to outlast the next crash, since answers will rest on it (invariant 5).
     device.sync()?;
     let len = device.len()?;
+    // After the sync, so that running out of memory leaves a durable device.
     let mut bytes = vec![in alloc; 0; len]?;
     device.read_at(0, &mut bytes)?;
     Ok(bytes)
 }
 
-/// The bytes at a place.
 pub(crate) fn read_record<D: Device>(
     alloc: Global,
     device: &mut D,
@@ -52,6 +53,7 @@ pub(crate) fn read_record<D: Device>(
     ensures device { (result ≡ Err RecordFault.Device) → D.failures_of device.new ≡ min (D.failures_of device.old + 1) (2 ^ 64 - 1) }
     ensures no_failure { OnOk result (D.failures_of device.new ≡ D.failures_of device.old) }
 {
+    // Memory before the device, so that `Memory` counts no failure (invariant 8).
     let mut bytes = vec![in alloc; 0; place.len]?;
     device.read_at(place.at, &mut bytes)?;
     Ok(Bytes::from_vec(bytes))
@@ -74,6 +76,7 @@ fn close<D: Device>(device: &mut D, gate: usize) -> Result<(), RecordFault>
     ensures no_failure { OnOk result (D.failures_of device.new ≡ D.failures_of device.old) }
 {
     let _room = device.capacity();
+    // One byte, which a crash may leave as 01: then the whole group is behind it (invariant 3).
     device.write_at(gate, &[0])?;
     device.sync()?;
     Ok(())
@@ -110,9 +113,11 @@ pub(crate) fn read_file<D: Device>(
         Ok(found) => found,
         Err(fault) => return Err(fault),
     };
+    // At rest already, so opening a whole file writes nothing.
     if bytes[end] == 0 {
         return Ok((table, end));
     }
+    // A gate torn while it was opened or closed. It is made 00, so that the file is at rest (invariant 4).
     match close(device, end) {
         Ok(()) => Ok((table, end)),
         Err(fault) => Err(fault),

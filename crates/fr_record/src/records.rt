@@ -39,7 +39,7 @@ impl<D: Device> Model for Records<D> {
 }
 
 impl<D: Device> Records<D> {
-    /// How many records there are.
+    /// Records, those found at the opening and those appended since.
     pub fn len(&self) -> usize
         ensures value { result ≡ length self.now.records }
         ensures kept { self.now.is_failed ≡ false → LeavesOnly D.Led D.disk (IsAtRest self.now.records) self.now.device }
@@ -61,6 +61,7 @@ impl<D: Device> Records<D> {
         ensures within { D.capacity_of self.now.device < 2 ^ 64 }
         ensures least { length (frames self.now.records) < D.capacity_of self.now.device }
     {
+        // `<`: the gate itself stands at `end` and takes one byte more than `len`.
         len < self.device.capacity() - self.end
     }
 
@@ -81,6 +82,7 @@ impl<D: Device> Records<D> {
         if self.is_failed {
             return Err(RecordFault::Failed);
         }
+        // The table answers, so a number past the end costs no call of the device (invariant 9).
         if i >= self.table.len() {
             return Ok(None);
         }
@@ -88,9 +90,11 @@ impl<D: Device> Records<D> {
         match read_record(alloc, &mut self.device, place) {
             Ok(found) => Ok(Some(found)),
             Err(RecordFault::Device) => {
+                // A read that failed leaves the file failed too: one rule for every call (invariant 6).
                 self.is_failed = true;
                 Err(RecordFault::Device)
             }
+            // The device was not called, so the file goes on.
             Err(RecordFault::Memory) => Err(RecordFault::Memory),
             Err(RecordFault::Full) => unreachable!(),
             Err(RecordFault::Failed) => unreachable!(),
@@ -118,16 +122,20 @@ impl<D: Device> Records<D> {
         if self.is_failed {
             return Err(RecordFault::Failed);
         }
+        // Before memory is taken (invariant 7): a record without room is `Full` however little memory there is.
         if !self.has_room(payload.len() + 5) {
             return Err(RecordFault::Full);
         }
         let new = behind_gate(alloc, payload)?;
+        // The place in the table first: once the gate is open the record counts, and nothing may fail any more.
         self.table.reserve(1)?;
         let gate = self.end;
         match put(&mut self.device, gate, &new) {
             Ok(()) => {}
             Err(DeviceFault::Full) => unreachable!(),
             Err(DeviceFault::Device) => {
+                // The record may be there or not; opening again will say (invariants 3 and 6). Until then the table
+                // is the one before.
                 self.is_failed = true;
                 return Err(RecordFault::Device);
             }
@@ -140,6 +148,7 @@ impl<D: Device> Records<D> {
             Ok(()) => {}
             Err(_) => unreachable!(),
         }
+        // `new` ends in a closed gate, which is the new end (invariant 9).
         self.end = gate + new.len();
         Ok(())
     }
@@ -170,12 +179,15 @@ impl<D: Device> Records<D> {
         if !self.has_room(framed_len(group)) {
             return Err(RecordFault::Full);
         }
+        // After the test for room, in which it needs its gate alone; and before the device is called, since an empty
+        // group opens no gate.
         if group.is_empty() {
             return Ok(());
         }
         let bytes = framed(alloc, group)?;
         self.table.reserve(group.len())?;
         let gate = self.end;
+        // Without the first gate: it is the one that stands closed in the file, and opens last (invariants 2 and 3).
         match put(&mut self.device, gate, &bytes[1..]) {
             Ok(()) => {}
             Err(DeviceFault::Full) => unreachable!(),
@@ -202,10 +214,12 @@ impl<D: Device> Records<D> {
         ensures device { (result ≡ Err RecordFault.Device) → FailsOnceMore D.failures_of device }
     {
         let mut device = device;
+        // A file has one gate at least, so there is none on a device without room.
         if device.capacity() < 1 {
             return Err(RecordFault::Full);
         }
         device.write_at(0, &[0])?;
+        // The gate has to be on the device before the file is said to be there (invariant 5).
         device.sync()?;
         Ok(Records {
             device,
@@ -239,6 +253,8 @@ impl<D: Device> Records<D> {
                 end,
                 is_failed: false,
             }),
+            // The device is dropped with the refusal: with it in the fault, the faults of every caller would carry a
+            // device.
             Err(fault) => Err(fault),
         }
     }
@@ -264,6 +280,7 @@ impl<D: Device> Records<D> {
     {
         match read_file(alloc, &mut self.device) {
             Ok((table, end)) => {
+                // All three together, since they describe one file (invariant 9).
                 self.table = table;
                 self.end = end;
                 self.is_failed = false;
@@ -273,6 +290,7 @@ impl<D: Device> Records<D> {
                 self.is_failed = true;
                 Err(RecordFault::Device)
             }
+            // The file stays as it was, failed or not: nothing was changed in it, and the next opening may succeed.
             Err(RecordFault::Memory) => Err(RecordFault::Memory),
             Err(RecordFault::Broken) => Err(RecordFault::Broken),
             Err(RecordFault::Full) => unreachable!(),
@@ -280,7 +298,7 @@ impl<D: Device> Records<D> {
         }
     }
 
-    /// Gives the device back.
+    /// Failed or not, with the file as its calls left it.
     pub fn into_device(self) -> D
         ensures { result ≡ self.device }
     {

@@ -11,18 +11,18 @@ use fr_log::{Log, LogAsk, Push, Seed, SeedRecord};
 use fr_state::CoordState;
 use fr_tags::Body;
 
-/// A log is within its limits.
 pub(crate) fn log_within_limits(log: &Log)
     ensures { IsSoundLog log.now }
 {
+    // Numbers of the log are within their limits by their types, which the prover learns where one is read.
     let _epoch = log.id().epoch.get();
     let _known = log.known().get();
 }
 
-/// An ask is within its limits.
 pub(crate) fn ask_within_limits(ask: &LogAsk)
     ensures { IsSoundAsk ask.now }
 {
+    // A request has one spelling only within its limits (invariant 3).
     match ask {
         LogAsk::Seed(seed) => seed_within_limits(seed),
         LogAsk::Push(push) => push_within_limits(push),

@@ -32,14 +32,12 @@ impl Model for FileLog {
 }
 
 impl FileLog {
-    /// This log.
     pub(crate) fn new(log: Log) -> Self
         ensures { result ≡ log }
     {
         FileLog { log }
     }
 
-    /// The log.
     pub(crate) fn log(&self) -> &Log
         ensures { result.now ≡ self.now }
     {
@@ -91,9 +89,12 @@ fn take_ask(log: &mut Log, alloc: Global, ask: LogAsk) -> Result<(), RecordReadF
     letting_law();
     log_within_limits(log);
     ask_within_limits(&ask);
+    // Asked before the log is: a record that changes nothing was written by no request (invariant 2).
     if !log.is_changed_by(&ask) {
         return Err(RecordReadFault::Broken);
     }
+    // `step` and not `keep`: what the file says is on the device already, so what a Pop covers may go at once
+    // (invariant 5).
     match log.step(alloc, ask) {
         Ok(_) => {
             log_within_limits(log);
@@ -118,6 +119,7 @@ fn take_seeded(log: &mut Log, next: SeedRecord) -> Result<(), RecordReadFault>
             log_within_limits(log);
             Ok(())
         }
+        // Behind a push, a lock or a popped tag, or out of order: no seed was written so (invariants 2 and 6).
         Ok(false) => Err(RecordReadFault::Broken),
         Err(_) => Err(RecordReadFault::Memory),
     }
@@ -135,6 +137,7 @@ fn take_popped(log: &mut Log, popped: PoppedTag) -> Result<(), RecordReadFault>
     log_within_limits(log);
     match log.take_popped(popped) {
         Ok(true) => {
+            // At each record, so that reading a long file back never holds more than the log does (invariant 5).
             log.settle();
             log_within_limits(log);
             Ok(())
@@ -191,6 +194,8 @@ impl Recorded for FileLog {
         file_ask_law();
         ask_within_limits(ask);
         log_within_limits(&self.log);
+        // The same test that a reader makes of each record (invariant 2). A request that changes nothing costs no
+        // sync.
         if self.log.is_changed_by(ask) {
             spelled_ask(alloc, &self.log, ask)
         } else {
@@ -203,6 +208,7 @@ impl Recorded for FileLog {
     }
 
     fn keep(&mut self, alloc: Global, ask: LogAsk) -> Result<LogTell, Memory> {
+        // Lets nothing go: the records of this request are not on the device yet (invariant 5).
         self.log.keep(alloc, ask)
     }
 
@@ -211,6 +217,7 @@ impl Recorded for FileLog {
     }
 
     fn go_back(&mut self, place: Checkpoint) {
+        // The device refused the records. Since nothing was let go, the log can be what it was (invariant 5).
         place_law();
         self.log.go_back(place);
     }
@@ -221,6 +228,8 @@ impl Recorded for FileLog {
 
     fn read(&mut self, alloc: Global, change: &[u8]) -> Result<(), RecordReadFault> {
         log_within_limits(&self.log);
+        // Read against the log so far, because it says which epoch a push is of, and which log a head has to name
+        // (invariants 1 and 7).
         let change = match change_at(alloc, &self.log, change) {
             Ok(change) => change,
             Err(fault) => return Err(fault),

@@ -53,6 +53,7 @@ fn fresh(alloc: Global, id: LogId, m: u8, k: u8) -> FileLog
     ensures settled { IsSettledLog result }
 {
     letting_law();
+    // No record stands for this log (invariant 1): a file without records is a log that was never asked.
     let log = Log::new(alloc, id, m, k);
     log_within_limits(&log);
     FileLog::new(log)
@@ -108,6 +109,8 @@ impl<D: Device> LogNode<D> {
         ensures never_full { result ≢ Err NodeFault.Full }
         ensures never_failed { result ≢ Err NodeFault.Failed }
     {
+        // The caller says which log it wants: a file that names another one is `Broken`, and not opened as what it is
+        // (invariant 7).
         let log = fresh(alloc, id, m, k);
         match FileNode::open(alloc, device, log) {
             Ok(node) => Ok(LogNode { node }),
@@ -142,10 +145,12 @@ impl<D: Device> LogNode<D> {
         ensures kept { OnOk result (Throughout D.Led D.disk (Opens replay_log (fresh_of self.new.machine) (λ x. x
             ≡ self.new.machine)) self.new.device self.new.device) }
     {
+        // One group for all of them, so that a crash leaves all or none: a part of the list would be a state that no
+        // reply describes (invariant 4).
         self.node.serve_all(alloc, asks)
     }
 
-    /// Gives the device back.
+    /// The device below, failed or not, as the node's calls left it.
     pub fn into_device(self) -> D
         ensures { result ≡ self.device }
     {
@@ -199,6 +204,7 @@ impl<D: Device> Node for LogNode<D> {
         ensures kept { OnOk result (moments.Throughout D.Led D.disk (Opens replay_log (fresh_of self.new.machine) (λ x. x
             ≡ self.new.machine)) self.new.device self.new.device) }
     {
+        // A list of one request, so there is one order of calls: records, device, then the reply (invariant 4).
         self.node.serve(alloc, ask)
     }
 

@@ -13,7 +13,7 @@ use fr_state::{CoordState, StateDecodeFault, decode as decode_state};
 use fr_tags::Body;
 use std::alloc::Global;
 
-/// The numbers of a push.
+/// The numbers of a push, each below 2^62 and not yet compared with one another.
 #[derive(Clone, Copy)]
 pub(crate) struct Numbers {
     prev: u64,
@@ -35,6 +35,7 @@ fn byte_at(bytes: &[u8]) -> Result<(u8, &[u8]), RecordReadFault>
 fn bytes_at(len: usize, bytes: &[u8]) -> Result<(&[u8], &[u8]), RecordReadFault>
     ensures { Finds (λ x. (x.0.now, x.1.now)) result (bytes_at len bytes.now) }
 {
+    // The length is the file's own, so it may reach past the record.
     bytes.split_at_checked(len).ok_or(RecordReadFault::Broken)
 }
 
@@ -67,6 +68,7 @@ fn version_at(bytes: &[u8]) -> Result<(u64, &[u8]), RecordReadFault>
     ensures within { IfOk result (λ x. x.0 < 2 ^ 62) }
 {
     let (number, rest) = number_at(bytes)?;
+    // Tested as it is read, so that every version behind the door is one.
     if number < 1 << 62 {
         Ok((number, rest))
     } else {
@@ -74,13 +76,13 @@ fn version_at(bytes: &[u8]) -> Result<(u64, &[u8]), RecordReadFault>
     }
 }
 
-/// The version of a number.
 fn version_of(number: u64) -> Version
     requires { number < 2 ^ 62 }
     ensures { result ≡ number }
 {
     match Version::new(number) {
         Some(version) => version,
+        // `version_at` tested it.
         None => unreachable!(),
     }
 }
@@ -99,7 +101,6 @@ fn tag_at(bytes: &[u8]) -> Result<(u8, &[u8]), RecordReadFault>
     }
 }
 
-/// The tag of a number.
 fn tag_of(number: u8) -> Tag
     requires { number < 32 }
     ensures { result ≡ number }
@@ -116,6 +117,8 @@ fn batch_of(alloc: Global, bytes: &[u8]) -> Result<Batch, RecordReadFault>
 {
     match decode(alloc, bytes) {
         Ok((batch, used)) => {
+            // All bytes have to be used (invariant 3): else one batch would have as many spellings as there are
+            // tails.
             if used == bytes.len() {
                 Ok(batch)
             } else {
@@ -127,6 +130,7 @@ fn batch_of(alloc: Global, bytes: &[u8]) -> Result<Batch, RecordReadFault>
         Err(DecodeFault::UnknownKind) => Err(RecordReadFault::Broken),
         Err(DecodeFault::OverLimit) => Err(RecordReadFault::Broken),
         Err(DecodeFault::Inverted) => Err(RecordReadFault::Broken),
+        // A batch has the lowest format that expresses it. Another one would be a second spelling (invariant 3).
         Err(DecodeFault::NeedlessFormat) => Err(RecordReadFault::Broken),
     }
 }
@@ -164,6 +168,8 @@ fn bodies_of(alloc: Global, bytes: &[u8]) -> Result<Vec<Body>, RecordReadFault>
     let (count, front) = byte_at(bytes)?;
     let mut bodies = Vec::new(alloc);
     let mut rest = front;
+    // The count is one byte, and bodies are added one by one: so a count that lies takes no memory for bodies that
+    // are not there.
     for _ in 0..count {
         let (tag, text, after) = text_at(rest)?;
         let batch = batch_of(alloc, text)?;
@@ -171,6 +177,7 @@ fn bodies_of(alloc: Global, bytes: &[u8]) -> Result<Vec<Body>, RecordReadFault>
         add(&mut bodies, Body { tag, batch })?;
         rest = after;
     }
+    // Bytes behind the last body would be a second spelling (invariant 3).
     if rest.is_empty() {
         Ok(bodies)
     } else {
@@ -178,7 +185,6 @@ fn bodies_of(alloc: Global, bytes: &[u8]) -> Result<Vec<Body>, RecordReadFault>
     }
 }
 
-/// Adds a body at the end.
 fn add(bodies: &mut Vec<Body>, body: Body) -> Result<(), RecordReadFault>
     ensures ok { OnOk result (bodies.new.items ≡ bodies.old.items ++ body ∷ []) }
     ensures err { IfErr result (λ fault. fault ≡ RecordReadFault.Memory) }
@@ -216,6 +222,8 @@ fn push_of(alloc: Global, epoch: Epoch, bytes: &[u8]) -> Result<Push, RecordRead
     let (numbers, rest) = numbers_at(bytes)?;
     let bodies = bodies_of(alloc, rest)?;
     let (prev, version) = (version_of(numbers.prev), version_of(numbers.version));
+    // Order of the versions and of the tags is tested by `Push` itself. Whether the log takes it is asked later
+    // (invariant 2).
     match Push::new(epoch, prev, version, version_of(numbers.known), bodies) {
         Some(push) => Ok(push),
         None => Err(RecordReadFault::Broken),
@@ -229,6 +237,7 @@ fn mark_of(alloc: Global, epoch: Epoch, bytes: &[u8]) -> Result<Push, RecordRead
 {
     let (numbers, rest) = numbers_at(bytes)?;
     let state = state_of(alloc, rest)?;
+    // A mark's version is `prev + 1`, so another number would be a second spelling of it (invariant 3).
     if numbers.version != numbers.prev + 1 {
         return Err(RecordReadFault::Broken);
     }
@@ -249,6 +258,7 @@ fn own_at<'a>(log: &Log, bytes: &'a [u8]) -> Result<&'a [u8], RecordReadFault>
     let (m, rest) = byte_at(rest)?;
     let (k, rest) = byte_at(rest)?;
     let id = log.id();
+    // All four: with another m or k the same number of log would hold other tags (invariant 7).
     if epoch == id.epoch.get() && index == id.index && m == log.m() && k == log.k() {
         Ok(rest)
     } else {
@@ -264,6 +274,7 @@ fn head_of(alloc: Global, log: &Log, bytes: &[u8]) -> Result<Seed, RecordReadFau
     let rest = own_at(log, bytes)?;
     let (first, rest) = version_at(rest)?;
     let (seeded_to, rest) = version_at(rest)?;
+    // The records of the seed stand in records of their own, so that a long seed has no record past 2^32 bytes.
     if !rest.is_empty() {
         return Err(RecordReadFault::Broken);
     }
@@ -297,6 +308,7 @@ fn popped_of(bytes: &[u8]) -> Result<PoppedTag, RecordReadFault>
 {
     let (tag, rest) = tag_at(bytes)?;
     let (version, rest) = version_at(rest)?;
+    // Bytes behind the version would be a second spelling (invariant 3).
     if !rest.is_empty() {
         return Err(RecordReadFault::Broken);
     }
@@ -310,12 +322,14 @@ pub(crate) fn change_at(alloc: Global, log: &Log, bytes: &[u8]) -> Result<Change
     ensures { Finds (λ change. change) result (change_at log.now bytes.now) }
 {
     let (kind, rest) = byte_at(bytes)?;
+    // Written once, in the head: a push of another epoch is refused by the log, and so never written (invariant 2).
     let epoch = log.id().epoch;
     match kind {
         HEAD => Ok(Change::Asked(LogAsk::Seed(head_of(alloc, log, rest)?))),
         SEEDED => Ok(Change::Seeded(seeded_of(alloc, rest)?)),
         PUSH => Ok(Change::Asked(LogAsk::Push(push_of(alloc, epoch, rest)?))),
         MARK => Ok(Change::Asked(LogAsk::Push(mark_of(alloc, epoch, rest)?))),
+        // A lock has nothing behind its kind, and with more it is no record (invariant 3).
         LOCK if rest.is_empty() => Ok(Change::Asked(LogAsk::Lock { epoch })),
         POPPED => Ok(Change::LetGo(popped_of(rest)?)),
         _ => Err(RecordReadFault::Broken),

@@ -12,17 +12,17 @@ use fr_state::encode as encode_state;
 use fr_tags::Body;
 use std::alloc::Global;
 
-/// A seed but for its records.
+/// A seed but for its records: which log it is of, and its versions.
 pub(crate) const HEAD: u8 = 1;
-/// A record of a seed.
+/// A record of the seed before it: version, tag, batch.
 pub(crate) const SEEDED: u8 = 2;
-/// A push.
+/// A push: its numbers and bodies.
 pub(crate) const PUSH: u8 = 3;
-/// A mark.
+/// A mark: its numbers and the coordinated state, in place of bodies.
 pub(crate) const MARK: u8 = 4;
-/// A lock.
+/// A lock: nothing else.
 pub(crate) const LOCK: u8 = 5;
-/// A tag popped further.
+/// A tag, and the version through which it is now popped.
 pub(crate) const POPPED: u8 = 6;
 
 /// The records of an ask that changes a log.
@@ -34,12 +34,15 @@ pub(crate) fn spelled_ask(alloc: Global, log: &Log, ask: &LogAsk) -> Result<Vec<
     let mut group = Vec::new(alloc);
     match ask {
         LogAsk::Seed(seed) => {
+            // The head first: records of a seed are read into the seed that it began (invariant 6).
             group.push(head(alloc, log, seed)?)?;
             put_records(&mut group, alloc, seed.records())?;
         }
         LogAsk::Push(push) => group.push(pushed(alloc, push)?)?,
         LogAsk::Lock { .. } => group.push(lock(alloc)?)?,
         LogAsk::Pop { tag, through, .. } => {
+            // The version reached, and not the one asked for: it depends on what the log knows to be committed, so
+            // the reader need not work it out again.
             group.push(popped(alloc, *tag, log.popped_to(*tag, *through))?)?;
         }
         _ => {}
@@ -116,6 +119,7 @@ fn pushed(alloc: Global, push: &Push) -> Result<Vec<u8>, Memory>
 {
     let mut bytes = Vec::new(alloc);
     match push.marked() {
+        // A kind of its own, since a push without bodies is no mark.
         Some(state) => {
             bytes.push(MARK)?;
             put_numbers(&mut bytes, push)?;
@@ -138,6 +142,7 @@ fn put_numbers(out: &mut Vec<u8>, push: &Push) -> Result<(), Memory>
 {
     out.extend_from_slice(&push.prev().get().to_be_bytes())?;
     out.extend_from_slice(&push.version().get().to_be_bytes())?;
+    // `known` is part of the record though not of the push's identity: it raised the log's own (invariant 1).
     out.extend_from_slice(&push.known().get().to_be_bytes())?;
     Ok(())
 }
@@ -149,6 +154,8 @@ fn put_bodies(out: &mut Vec<u8>, alloc: Global, bodies: &[Body]) -> Result<(), M
     ensures bytes { OnOk result (out.new.items ≡ out.old.items ++ spelled_bodies bodies.now) }
     ensures short { OnOk result (length (spelled_bodies bodies.now) ≤ 1 + 110007008 * 32) }
 {
+    // At most 32 bodies of at most 110,007,008 bytes each: so the record is shorter than 2^32 bytes, which its frame
+    // can say.
     out.push(bodies.len() as u8)?;
     for body in bodies {
         put_body(out, alloc, body)?;
@@ -156,7 +163,6 @@ fn put_bodies(out: &mut Vec<u8>, alloc: Global, bodies: &[Body]) -> Result<(), M
     Ok(())
 }
 
-/// Writes a body at the end.
 #[tactic(auto, unfolding(crate::specs::Spelling::spelled_body))]
 fn put_body(out: &mut Vec<u8>, alloc: Global, body: &Body) -> Result<(), Memory>
     ensures bytes { OnOk result (out.new.items ≡ out.old.items ++ spelled_body body.now) }
@@ -169,16 +175,15 @@ fn put_body(out: &mut Vec<u8>, alloc: Global, body: &Body) -> Result<(), Memory>
     Ok(())
 }
 
-/// The bytes of a batch.
 fn batch_bytes(alloc: Global, batch: &Batch) -> Result<Vec<u8>, Memory>
     ensures bytes { IfOk result (λ bytes. bytes.items ≡ spelled batch.now) }
     ensures short { IfOk result (λ bytes. length bytes.items ≤ 110007003) }
 {
+    // A batch within its limits has at most 110,007,003 bytes.
     let _mutations = batch.mutations();
     encode_batch(alloc, batch)
 }
 
-/// The record of a lock.
 fn lock(alloc: Global) -> Result<Vec<u8>, Memory>
     ensures { IfOk result (λ bytes. bytes.items ≡ 5 ∷ []) }
 {

@@ -26,7 +26,6 @@ where
     N::Plain: Housable,
     <N::Plain as Machine>::Ask: Drop,
 {
-    /// This node with its journal.
     pub(crate) fn new(housed: Housed<N>) -> Self
         requires place { answers housed.place ≡ true }
     {
@@ -79,7 +78,6 @@ where
         self.housed.lose(alloc, stamp)
     }
 
-    /// The node with its journal.
     pub(crate) fn into_housed(self) -> Housed<N>
         ensures place { answers result.place ≡ true }
     {

@@ -15,7 +15,7 @@ pub(crate) struct Cells<C: Node<Plain = Cell>> {
 }
 
 impl<C: Node<Plain = Cell> + Drop> Cells<C> {
-    /// These cells, in the order of their numbers.
+    /// By rising numbers, so that a cell is found at its own (invariant 4).
     pub(crate) fn new(stations: Vec<Station<C>>) -> Self
         requires named { map (λ cell. cell.place) stations.items ≡ cells_named (length stations.items) }
         ensures { result.stations.items ≡ stations.items }
@@ -23,7 +23,6 @@ impl<C: Node<Plain = Cell> + Drop> Cells<C> {
         Cells { stations }
     }
 
-    /// The cell of a number.
     pub(crate) fn get(&self, index: u8) -> Option<&Station<C>>
         ensures there { (result ≡ None) ↔ (length self.now.stations.items ≤ index) }
         ensures found { IfSome result (λ cell. cell.now.place ≡ node.Cell index) }
@@ -31,7 +30,6 @@ impl<C: Node<Plain = Cell> + Drop> Cells<C> {
         self.stations.get(usize::from(index))
     }
 
-    /// The cells, in the order of their numbers.
     pub(crate) fn into_stations(self) -> Vec<Station<C>>
         ensures { result.items ≡ self.stations.items }
     {

@@ -26,6 +26,7 @@ pub struct Chosen {
 pub(crate) fn later_of(one: Chosen, other: Chosen) -> Chosen
     ensures { result ≡ later_of one other }
 {
+    // By the epoch and not by the stamp: of two chosen states the one of the greater ballot goes on from the other.
     if one.generation.epoch() < other.generation.epoch() {
         other
     } else {

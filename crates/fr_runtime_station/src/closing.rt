@@ -26,6 +26,7 @@ where
     ensures trouble { IfErr result (IsClosingTrouble N.CanMeet) }
 {
     for station in stations {
+        // `close` opens a failed node again: a journal ends with the state that the node is really in (invariant 1).
         put_closed(journals, station.close(alloc)?, is_each)?;
     }
     Ok(())
@@ -43,6 +44,8 @@ pub(crate) fn put_closed(
     ensures more { OnOk result (length journals.old.items ≤ length journals.new.items) }
     ensures each { is_each ≡ true → OnOk result (length journals.new.items ≡ length journals.old.items + 1) }
 {
+    // A node of a later epoch that nobody called took part in nothing, so its journal may be left out. Those of the
+    // start are wanted each.
     if is_each || !journal.entries().is_empty() {
         put(journals, journal)?;
     }

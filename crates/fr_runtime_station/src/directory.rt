@@ -31,6 +31,9 @@ use std::sync::Wait;
 /// are there from the start. Of each later epoch that may come there is its number alone until its recoverer
 /// publishes its logs, and then its sequencer, each with the stamp from which on it is there. To look for a node
 /// takes no lock and walks the epochs, at most one for each ballot.
+///
+/// The nodes of the start are plain fields. If they were written once too, a body could always say that a node is not
+/// there.
 #[derive(Drop)]
 pub struct Directory<C: Node<Plain = Cell>, L: Node<Plain = Log>> {
     cells: Cells<C>,
@@ -59,6 +62,7 @@ impl<C: Node<Plain = Cell> + Drop, L: Node<Plain = Log> + Drop> Directory<C, L> 
           later = epochs.now;
         }) }
     {
+        // One place for each epoch that may come, so that no look-up has to lock a list that grows (invariant 5).
         let later = all_to_come(alloc, epochs)?;
         let chosen = Chosen {
             generation: first,
@@ -72,7 +76,6 @@ impl<C: Node<Plain = Cell> + Drop, L: Node<Plain = Log> + Drop> Directory<C, L> 
         })
     }
 
-    /// Whether an epoch is that of the start.
     fn is_first(&self, epoch: Epoch) -> bool
         ensures { result ≡ is_first (places_of self.now) epoch }
     {
@@ -83,6 +86,8 @@ impl<C: Node<Plain = Cell> + Drop, L: Node<Plain = Log> + Drop> Directory<C, L> 
     fn nodes_of(&self, epoch: Epoch) -> Option<&EpochNodes<L>>
         ensures { may_come (places_of self.now) epoch ≡ false → result ≡ None }
     {
+        // A list of later epochs that names the first one too changes nothing, since its nodes are the plain ones
+        // (invariant 6).
         if self.is_first(epoch) {
             return None;
         }
@@ -94,7 +99,7 @@ impl<C: Node<Plain = Cell> + Drop, L: Node<Plain = Log> + Drop> Directory<C, L> 
         None
     }
 
-    /// The cell of a number.
+    /// The cell of a number; none past the last one.
     pub fn cell(&self, index: u8) -> Option<&Station<C>>
         ensures there { (result ≡ None) ↔ ((places_of self.now).cells ≤ index) }
         ensures found { IfSome result (λ cell. cell.now.place ≡ node.Cell index) }
@@ -110,6 +115,7 @@ impl<C: Node<Plain = Cell> + Drop, L: Node<Plain = Log> + Drop> Directory<C, L> 
         ensures stamp { is_first (places_of self.now) id.epoch ≡ true
             → IfSome result (λ found. found.1 ≡ (places_of self.now).start.stamp) }
     {
+        // No `OnceLock` for these, so a contract can say that they are there (invariant 6).
         if self.is_first(id.epoch) {
             let log = self.first.log(id.index)?;
             return Some((log, self.first.chosen().stamp));
@@ -117,8 +123,8 @@ impl<C: Node<Plain = Cell> + Drop, L: Node<Plain = Log> + Drop> Directory<C, L> 
         self.nodes_of(id.epoch)?.log(id)
     }
 
-    /// The sequencer of an epoch, once it is there, with the stamp from which on it is. That of the first epoch is there
-    /// from the start.
+    /// The sequencer of an epoch, once it is there, with the stamp from which on it is. That of the first epoch is
+    /// there from the start.
     pub fn sequencer(&self, epoch: Epoch) -> Option<(&Station<InMemory<Sequencer>>, Stamp)>
         ensures there { (result ≡ None) → may_lack (places_of self.now) (node.Sequencer epoch) ≡ true }
         ensures lacking { must_lack (places_of self.now) (node.Sequencer epoch) ≡ true → result ≡ None }
@@ -150,6 +156,7 @@ impl<C: Node<Plain = Cell> + Drop, L: Node<Plain = Log> + Drop> Directory<C, L> 
     pub fn newest(&self) -> Chosen
         ensures { (places_of self.now).start.generation.epoch ≤ result.generation.epoch }
     {
+        // There is always one: the state of the start counts as chosen.
         let mut newest = self.first.chosen();
         for nodes in &self.later {
             if let Some(chosen) = nodes.chosen() {
@@ -160,10 +167,13 @@ impl<C: Node<Plain = Cell> + Drop, L: Node<Plain = Log> + Drop> Directory<C, L> 
     }
 
     /// The logs of an epoch that may come are there from this stamp on, in the order of their numbers. If its logs
-    /// came before, those stay.
+    /// came before, those stay. A caller's stamp is raised to this one: otherwise a request could be stamped before
+    /// the seed from which the log replies.
     pub fn publish_logs<R: Wait>(&self, rt: &R, epoch: Epoch, logs: Vec<Station<L>>, stamp: Stamp)
         requires named { map (λ log. log.place) logs.items ≡ logs_named epoch (length logs.items) }
     {
+        // An epoch that was not announced has no place, and is dropped: the caller's ballots are fixed before the
+        // threads start.
         if let Some(nodes) = self.nodes_of(epoch) {
             nodes.put_logs(rt, epoch, logs, stamp);
         }
@@ -179,6 +189,7 @@ impl<C: Node<Plain = Cell> + Drop, L: Node<Plain = Log> + Drop> Directory<C, L> 
     )
         requires place { sequencer.place ≡ node.Sequencer chosen.generation.epoch }
     {
+        // Only once its state is chosen: whoever finds a sequencer may ask it for versions.
         if let Some(nodes) = self.nodes_of(chosen.generation.epoch()) {
             nodes.open(rt, Station::new(sequencer), chosen);
         }
@@ -206,6 +217,7 @@ impl<C: Node<Plain = Cell> + Drop, L: Node<Plain = Log> + Drop> Directory<C, L> 
         ensures called { IfOk result (λ got. IsCall C L stamp from ask (Ok got)) }
         ensures uncalled { IfErr result (IsUncalled (IsCall C L stamp from ask)) }
     {
+        // By the kind of the request: the nodes of one kind are of one type.
         match ask {
             Ask::Cell(ask) => self.call_cell(rt, alloc, stamp, from, to, ask),
             Ask::Log(ask) => self.call_log(rt, alloc, stamp, from, to, ask),
@@ -224,6 +236,8 @@ impl<C: Node<Plain = Cell> + Drop, L: Node<Plain = Log> + Drop> Directory<C, L> 
     ) -> Result<(Stamp, Tell), DirectoryFault>
         ensures { IsAnswered C L (places_of self.now) stamp from to (asked.Cell ask) result }
     {
+        // Tested before the node is looked for, so that a request of the wrong kind is called so whether the node is
+        // there or not.
         let NodeId::Cell { index } = to else {
             return Err(DirectoryFault::NotAsked);
         };
@@ -251,8 +265,10 @@ impl<C: Node<Plain = Cell> + Drop, L: Node<Plain = Log> + Drop> Directory<C, L> 
             return Err(DirectoryFault::NotAsked);
         };
         match self.log(LogId { epoch, index }) {
+            // The caller's stamp is raised to the one from which on the log is there (invariant 3).
             Some((log, there)) => match log.call(rt, alloc, stamp.max(there), from, ask) {
                 Ok(got) => {
+                    // After the call, when its lock is free again (invariant 2).
                     log.wake(&got.1);
                     Ok(got)
                 }
@@ -279,6 +295,7 @@ impl<C: Node<Plain = Cell> + Drop, L: Node<Plain = Log> + Drop> Directory<C, L> 
         match self.sequencer(epoch) {
             Some((sequencer, there)) => {
                 match sequencer.call(rt, alloc, stamp.max(there), from, ask) {
+                    // Nobody waits for a sequencer, so there is nobody to wake.
                     Ok(got) => Ok(got),
                     Err(fault) => Err(DirectoryFault::Call(fault)),
                 }
@@ -343,6 +360,7 @@ impl<C: Node<Plain = Cell> + Drop, L: Node<Plain = Log> + Drop> Directory<C, L> 
         ensures { IsCrashAnswered C L (places_of self.now) stamp (node.Log id.epoch id.index) result }
     {
         match self.log(id) {
+            // Nobody is let go: the log is opened again at once, and holds what it held.
             Some((log, there)) => match log.crash(rt, alloc, stamp.max(there)) {
                 Ok(at) => Ok(at),
                 Err(fault) => Err(DirectoryFault::Call(fault)),
@@ -363,6 +381,8 @@ impl<C: Node<Plain = Cell> + Drop, L: Node<Plain = Log> + Drop> Directory<C, L> 
         match self.sequencer(epoch) {
             Some((sequencer, there)) => match sequencer.crash(rt, alloc, stamp.max(there)) {
                 Ok(at) => {
+                    // No version of the epoch will be numbered any more, so threads that wait for one would wait in
+                    // vain (invariant 7).
                     self.let_go(epoch);
                     Ok(at)
                 }
@@ -393,6 +413,7 @@ impl<C: Node<Plain = Cell> + Drop, L: Node<Plain = Log> + Drop> Directory<C, L> 
         match self.log(id) {
             Some((log, there)) => match log.lose(rt, alloc, stamp.max(there)) {
                 Ok(at) => {
+                    // It answers nothing from now on, so no Held will wake those who wait for it (invariant 7).
                     log.let_go();
                     Ok(at)
                 }
@@ -417,6 +438,7 @@ impl<C: Node<Plain = Cell> + Drop, L: Node<Plain = Log> + Drop> Directory<C, L> 
             later,
         } = self;
         let mut journals = Vec::new(alloc);
+        // By value: threads are at their ends, so nobody can hold a lock (invariant 2).
         close_all(alloc, cells.into_stations(), true, &mut journals)?;
         first.close(alloc, &mut journals)?;
         for nodes in later {

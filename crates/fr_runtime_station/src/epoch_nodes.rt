@@ -24,7 +24,6 @@ struct Logs<L: Node<Plain = Log>> {
 }
 
 impl<L: Node<Plain = Log>> Logs<L> {
-    /// The log of a number.
     fn get(&self, index: u8) -> Option<&Station<L>>
         ensures { IfSome result (λ log. log.now.place ≡ node.Log self.now.epoch index) }
     {
@@ -43,6 +42,9 @@ struct Opened {
 /// The logs of an epoch that may come, as many as its generation has, and its sequencer. Each come once: until then no
 /// thread finds them, and from then on each does, and waits for nobody. What comes says itself of which epoch it is,
 /// and is looked for only there: a contract knows nothing of what is written once, but what is true of all of its type.
+///
+/// The places are made before the threads start, the nodes by the recoverer, who knows how many logs its generation
+/// has. So a look-up takes no lock round all that is published, and an epoch that never comes costs nothing.
 #[derive(Drop)]
 pub(crate) struct EpochNodes<L: Node<Plain = Log>> {
     epoch: Epoch,
@@ -76,7 +78,6 @@ impl<L: Node<Plain = Log> + Drop> EpochNodes<L> {
         }
     }
 
-    /// The epoch.
     pub(crate) fn epoch(&self) -> Epoch
         ensures { result ≡ self.now.epoch }
     {
@@ -93,6 +94,8 @@ impl<L: Node<Plain = Log> + Drop> EpochNodes<L> {
     )
         requires named { map (λ log. log.place) stations.items ≡ logs_named epoch (length stations.items) }
     {
+        // The second set is refused, and its stations are dropped: other threads may have found the first (invariant
+        // 5).
         let _ = self.logs.set(
             rt,
             Logs {
@@ -113,6 +116,7 @@ impl<L: Node<Plain = Log> + Drop> EpochNodes<L> {
     )
         requires named { sequencer.place ≡ node.Sequencer chosen.generation.epoch }
     {
+        // As for the logs (invariant 5): a second sequencer of an epoch would give the same versions again.
         let _ = self.opened.set(rt, Opened { sequencer, chosen });
     }
 
@@ -121,6 +125,7 @@ impl<L: Node<Plain = Log> + Drop> EpochNodes<L> {
         ensures found { IfSome result (λ found. found.0.now.place ≡ node.Log id.epoch id.index) }
     {
         let logs = self.logs.get()?;
+        // Never so, but a contract knows of what is written once only what is true of all of its type (invariant 4).
         if logs.epoch != id.epoch {
             return None;
         }
@@ -133,6 +138,7 @@ impl<L: Node<Plain = Log> + Drop> EpochNodes<L> {
         ensures found { IfSome result (λ found. found.0.now.place ≡ node.Sequencer epoch) }
     {
         let opened = self.opened.get()?;
+        // As for the logs (invariant 4).
         if opened.chosen.generation.epoch() != epoch {
             return None;
         }
@@ -147,6 +153,7 @@ impl<L: Node<Plain = Log> + Drop> EpochNodes<L> {
 
     /// Nobody is to wait for these logs any more, once they are there.
     pub(crate) fn let_go(&self) {
+        // Before they are there nobody waits for them: `wait_for` answers false at once.
         if let Some(logs) = self.logs.get() {
             for log in &logs.stations {
                 log.let_go();
@@ -166,6 +173,7 @@ impl<L: Node<Plain = Log> + Drop> EpochNodes<L> {
             logs,
             opened,
         } = self;
+        // An epoch that never came has no node, and so no journal.
         if let Some(logs) = logs.into_inner() {
             close_all(alloc, logs.stations, false, journals)?;
         }

@@ -1,4 +1,8 @@
 //! What happens to asks and nodes while threads run, and when recoverers begin.
+//!
+//! The contract bounds what faults may do: which verdict a request may get, what may happen to a node, and when one
+//! that asks may be gone. Without that a wrapper that hands on no fault at all would meet the clauses of a storm.
+//! Which number a storm draws is not said.
 ghost use Rattle.std.specs.Prelude.{◌≡◌};
 
 use crate::chosen::Chosen;
@@ -10,7 +14,7 @@ use fr_base::{Ballot, LogId, NodeId, Tag};
 pub enum Verdict {
     /// It comes to its node, and what the node tells is heard.
     Pass,
-    /// It is lost.
+    /// It never comes to its node. Its sender hears nothing, and may send it again.
     DropAsk,
     /// It comes to its node, and what the node tells is lost.
     DropTell,
@@ -58,7 +62,7 @@ pub trait Faults {
     fn verdict(&self, to: NodeId, ask: &Ask) -> Verdict
         ensures { MayBefall self.now to ask.now result };
 
-    /// The node told what it was asked.
+    /// The node gave a reply to this request, be it heard or lost. Faults that follow a script wait for it.
     fn answered(&self, to: NodeId, ask: &Ask);
 
     /// What happens to a node at this turn of the thread of crashes, if these generations are chosen, that of the start
@@ -81,8 +85,8 @@ pub trait Faults {
     fn audits(&self) {}
 }
 
-/// No ask is lost or late, and no node crashes. The recoverer of a ballot whose round is r begins at turn 100 (r - 1): that of
-/// round 2, the first after the start's, at turn 100.
+/// No ask is lost or late, and no node crashes. The recoverer of a ballot whose round is r begins at turn
+/// 100 (r - 1): that of round 2, the first after the start's, at turn 100.
 #[derive(Clone, Copy, Debug)]
 pub struct NoFaults;
 
@@ -114,6 +118,7 @@ impl Faults for NoFaults {
 
     fn begins(&self, ballot: Ballot, turn: u32) -> bool {
         let number = ballot.get();
+        // Added on the left, so that nothing is subtracted from a round that could be 0.
         u64::from(turn) + 100 == 100 * (number / 256)
     }
 }

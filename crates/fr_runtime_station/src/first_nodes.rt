@@ -44,14 +44,12 @@ impl<L: Node<Plain = Log> + Drop> FirstNodes<L> {
         }
     }
 
-    /// The generation.
     pub(crate) fn chosen(&self) -> Chosen
         ensures { result ≡ self.now.chosen }
     {
         self.chosen
     }
 
-    /// The log of a number.
     pub(crate) fn log(&self, index: u8) -> Option<&Station<L>>
         ensures there { (result ≡ None) ↔ (length self.now.logs.items ≤ index) }
         ensures found { IfSome result (λ log. log.now.place ≡ node.Log self.now.chosen.generation.epoch index) }
@@ -59,7 +57,6 @@ impl<L: Node<Plain = Log> + Drop> FirstNodes<L> {
         self.logs.get(usize::from(index))
     }
 
-    /// The sequencer.
     pub(crate) fn sequencer(&self) -> &Station<InMemory<Sequencer>>
         ensures { result.now.place ≡ node.Sequencer self.now.chosen.generation.epoch }
     {
@@ -68,6 +65,7 @@ impl<L: Node<Plain = Log> + Drop> FirstNodes<L> {
 
     /// Nobody is to wait for these logs any more.
     pub(crate) fn let_go(&self) {
+        // Each log, since a push goes to all of them (invariant 7).
         for log in &self.logs {
             log.let_go();
         }
@@ -88,6 +86,7 @@ impl<L: Node<Plain = Log> + Drop> FirstNodes<L> {
             ..
         } = self;
         close_all(alloc, logs, true, journals)?;
+        // Each of them, whether something was entered or not: an audit wants the journals of all nodes of the start.
         put_closed(journals, sequencer.close(alloc)?, true)?;
         Ok(())
     }

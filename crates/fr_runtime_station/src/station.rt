@@ -17,6 +17,11 @@ use std::sync::{Mutex, Wait};
 
 /// A cell, a log or a sequencer with its journal behind a lock. Whenever the lock is free the journal replays to the
 /// node: that is what is true of every [`Housed`].
+///
+/// What lies under a lock is known by its type, and nothing of the one that is found. So a call is one call of such a
+/// node, in *some* state of it. An invented reply that was heard is found by the audit. A closer tie was proved with
+/// a small machine: while nobody asks the node, it is in a queue of one place under a rule. Over real nodes that says
+/// nothing of later epochs, and publishing a node could run out of memory.
 #[derive(Drop)]
 pub struct Station<N: Node>
 where
@@ -34,12 +39,13 @@ where
     N::Plain: Housable,
     <N::Plain as Machine>::Ask: Drop,
 {
-    /// A station of this node.
+    /// A station of this node, whose lock is free and for which nobody waits yet.
     pub fn new(housed: Housed<N>) -> Self
         requires place { answers housed.place ≡ true }
         ensures place { result.place ≡ housed.place }
     {
         Station {
+            // Read here, once: later it lies under the lock, and to look it up must not wait (invariant 4).
             place: housed.journal().node(),
             lock: Mutex::new(Answering::new(housed)),
             held: HeldVersions::new(),
@@ -66,6 +72,7 @@ where
             result }
         ensures trouble { IfErr result (IsTrouble N.CanMeet) }
     {
+        // The lock is held for this statement, which is one whole turn (invariants 1 and 2).
         self.lock.lock(rt).ask(alloc, stamp, from, ask)
     }
 
@@ -99,7 +106,9 @@ where
     pub(crate) fn wake(&self, tell: &Tell) {
         match tell {
             Tell::Log(LogTell::Held { version }) => self.held.reach(*version),
+            // A locked log takes no push any more, so what is waited for will not come (invariant 7).
             Tell::Log(LogTell::Locked { .. }) => self.held.let_go(),
+            // Other replies say nothing of what the log holds.
             _ => {}
         }
     }
@@ -125,7 +134,7 @@ where
         self.into_inner().into_journal(alloc)
     }
 
-    /// The node with its journal.
+    /// The node with its journal, once no thread can hold the lock: it is taken by value.
     pub fn into_inner(self) -> Housed<N>
         ensures place { answers result.place ≡ true }
     {

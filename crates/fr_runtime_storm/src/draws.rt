@@ -170,8 +170,9 @@ fn member(generation: Generation, word: u32) -> NodeId
     }
 }
 
-/// The log of a generation that a word loses: one of those in a row, one fewer than hold a tag, the first of which the
-/// epoch's round gives. So fewer of its logs are lost than hold a tag.
+/// The log of a generation that a word loses: one of those in a row, one fewer than hold a tag, the first of which
+/// the epoch's round gives. So fewer of its logs are lost than hold a tag. It goes by the round, so that nobody has
+/// to count which logs are lost.
 fn lost(generation: Generation, word: u32) -> Option<Blow>
     ensures { result ≡ lost_of generation word }
 {

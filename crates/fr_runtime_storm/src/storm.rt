@@ -11,6 +11,9 @@ use std::sync::atomic::{AtomicU64, Ordering};
 /// Faults drawn from a seed. The asks of all threads, the crashes and the losses are the calls of one count. Which of
 /// them gets which draw depends on the order in which threads come to it; what a draw is depends on the seed and the
 /// count alone. Recoverers begin as with [`NoFaults`].
+///
+/// The count is an atomic word that no node sees, and the draw at a number is a pure function. The price is that a
+/// seed repeats its draws and not its schedule. A plain cluster is a storm of strength 0.
 #[derive(Drop)]
 pub struct Storm {
     /// What it draws from.

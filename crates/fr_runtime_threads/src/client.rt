@@ -63,6 +63,7 @@ impl<W: Workload + Drop> Client<W> {
         ensures number { IfOk result (λ client. client.number ≡ number) }
     {
         Ok(Client {
+            // As it is before it gives anything: the clauses compare it with what it is in the end (invariant 5).
             first: Snapshot::of(&work),
             work,
             number,
@@ -79,6 +80,7 @@ impl<W: Workload + Drop> Client<W> {
         ensures number { self.new.number ≡ self.old.number }
         ensures under_way { self.new.door.under_way ≡ self.old.door.under_way }
     {
+        // The one that no proxy took comes first, so that batches stay in the workload's order (invariant 5).
         if self.kept.is_some() {
             return Ok(true);
         }
@@ -98,10 +100,15 @@ impl<W: Workload + Drop> Client<W> {
         ensures number { self.new.number ≡ self.old.number }
         ensures shut { self.new.door.under_way ≡ UnderWay.Nothing }
     {
+        // A proxy that still takes batches is not left, even for a later epoch: it will hear Stopped soon enough.
         if !self.door.is_over() || newest.generation.epoch() <= self.door.epoch() {
             return Ok(());
         }
+        // The new proxy's entries come after all that the thread has seen, and after its epoch was chosen (invariant
+        // 1).
         let now = self.door.seen().max(newest.stamp);
+        // Room for the closed journal before the next proxy is made, so that nothing is lost in between (invariant
+        // 2).
         self.earlier.reserve(1)?;
         let next = Door::new(alloc, config, self.number, newest.generation, now)?;
         let before = std::mem::replace(&mut self.door, next);
@@ -116,6 +123,7 @@ impl<W: Workload + Drop> Client<W> {
         ensures first { self.new.first ≡ self.old.first }
         ensures number { self.new.number ≡ self.old.number }
     {
+        // Until there is a later epoch the batch may be said to be under way.
         if newest.generation.epoch() <= self.door.epoch() {
             return Ok(());
         }
@@ -123,6 +131,8 @@ impl<W: Workload + Drop> Client<W> {
         self.earlier.reserve(1)?;
         self.told.reserve(1)?;
         let next = Door::new(alloc, config, self.number, newest.generation, now)?;
+        // `Waiting`, because the batch may be committed or not: the proxy that could have known is gone (invariant
+        // 5).
         self.work.told(Outcome::Waiting)?;
         self.told.push_reserved(Outcome::Waiting);
         let before = std::mem::replace(&mut self.door, next);
@@ -139,8 +149,10 @@ impl<W: Workload + Drop> Client<W> {
         match self.door.under_way() {
             UnderWay::Nothing => self.move_on(alloc, config, newest)?,
             UnderWay::Open => self.leave(alloc, config, newest)?,
+            // What it said before it crashed still counts.
             UnderWay::Said(_) => self.settle()?,
         }
+        // The recovery that it waits for is another thread's (invariant 9).
         yield_now();
         Ok(())
     }
@@ -155,6 +167,7 @@ impl<W: Workload + Drop> Client<W> {
         if !self.fill()? {
             return Ok(false);
         }
+        // The batch stays kept otherwise, for the proxy of the next epoch (invariant 5).
         if !self.door.is_over() {
             self.door.submit(&mut self.kept)?;
         }
@@ -169,6 +182,8 @@ impl<W: Workload + Drop> Client<W> {
     {
         match self.door.under_way() {
             UnderWay::Said(outcome) => {
+                // Room on both sides first: once the workload was told, nothing may fail, or it would be told again
+                // (invariant 5).
                 self.door.reserve()?;
                 self.told.reserve(1)?;
                 let said = outcome;
@@ -183,9 +198,9 @@ impl<W: Workload + Drop> Client<W> {
         }
     }
 
-    /// One turn: a batch is handed out if none is open, what is late comes, and each pending ask is sent once. False if
-    /// there is no further batch. A turn at which the proxy says nothing of a batch lets other threads go first. A proxy
-    /// that crashed takes no turn, and its thread waits for the next epoch.
+    /// One turn: a batch is handed out if none is open, what is late comes, and each pending ask is sent once. False
+    /// if there is no further batch. A turn at which the proxy says nothing of a batch lets other threads go first. A
+    /// proxy that crashed takes no turn, and its thread waits for the next epoch.
     fn turn<K: Rack, F: Faults, R: Wait>(
         &mut self,
         site: &Site<'_, K, F, R>,
@@ -197,10 +212,12 @@ impl<W: Workload + Drop> Client<W> {
     {
         if !self.door.is_gone() && site.faults.ends(self.door.notes().place(), number) {
             self.door.crash()?;
+            // Without a batch under way no other proxy waits for a version of this one (invariant 7).
             if self.door.is_open() {
                 site.directory.let_go(self.door.epoch());
             }
         }
+        // A turn all the same, so that a thread does not end before the epoch comes in which it goes on.
         if self.door.is_gone() {
             self.go_on(site.alloc, site.config, site.directory.newest())?;
             return Ok(true);
@@ -211,9 +228,11 @@ impl<W: Workload + Drop> Client<W> {
             }
         }
         send_all(site, &mut self.door, late)?;
+        // Its epoch is over, and so are the versions that others would wait for (invariant 7).
         if self.door.is_over() {
             site.directory.let_go(self.door.epoch());
         }
+        // Asked before `settle`, which takes the outcome away.
         let is_told = matches!(self.door.under_way(), UnderWay::Said(_));
         self.settle()?;
         if !is_told {
@@ -231,6 +250,8 @@ impl<W: Workload + Drop> Client<W> {
         ensures first { self.new.first ≡ self.old.first }
         ensures number { self.new.number ≡ self.old.number }
     {
+        // One for all turns, also over a change of the proxy: what was sent for an earlier one is dropped by its
+        // place (invariant 4).
         let mut late = Late::new(site.alloc);
         for turn in 1..=turns {
             if !self.turn(site, &mut late, turn)? {
@@ -248,6 +269,7 @@ impl<W: Workload + Drop> Client<W> {
         ensures places { IfOk result (λ s. are_proxies self.number s.journals.items ≡ true) }
     {
         let mut client = self;
+        // What the proxy said in the last turn is told as such, and not as waiting (invariant 5).
         client.settle()?;
         let Client {
             work,
@@ -258,6 +280,7 @@ impl<W: Workload + Drop> Client<W> {
             ..
         } = client;
         let is_open = door.is_open();
+        // The batch under way before the one that is left over: it was given first (invariant 5).
         let (work, told) = tell_waiting(work, told, is_open)?;
         let is_kept = is_left(&kept);
         let (work, told) = tell_waiting(work, told, is_kept)?;
@@ -273,7 +296,6 @@ impl<W: Workload + Drop> Client<W> {
     }
 }
 
-/// Whether a batch is left over.
 fn is_left(kept: &Option<Order>) -> bool
     ensures { waiting_if result ≡ waiting_for kept.now }
 {
@@ -296,6 +318,7 @@ fn tell_waiting<W: Workload + Drop>(
     let mut work = work;
     let mut told = told;
     if is_waiting {
+        // Room before the workload is told, since that cannot be taken back (invariant 5).
         told.reserve(1)?;
         told.push_reserved(Outcome::Waiting);
         work.told(Outcome::Waiting)?;
@@ -318,6 +341,7 @@ pub fn serve<K: Rack, F: Faults, R: Wait, W: Workload + Drop>(
     ensures places { IfOk result (λ s. are_proxies number s.journals.items ≡ true) }
 {
     let mut client = Client::new(site.alloc, site.config, first, number, work)?;
+    // Looked at only below: whether or not the turns ended well, others must not wait for this proxy (invariant 7).
     let ran = client.take_turns(site, turns);
     if client.door.is_open() || client.door.is_over() {
         site.directory.let_go(client.door.epoch());

@@ -16,8 +16,11 @@ pub fn crash<K: Rack, F: Faults, R: Wait>(
 ) -> Result<(), TurnFault> {
     let mut now = first_stamp();
     for number in 1..=turns {
+        // First of all: a crash in every turn of a fast thread would come before anything else has happened
+        // (invariant 9).
         yield_now();
         if let Some(at) = strike(site, number, now)? {
+            // The next stamp is above this one, so blows are in the order of the turns.
             now = at;
         }
     }
@@ -32,9 +35,11 @@ fn strike<K: Rack, F: Faults, R: Wait>(
 ) -> Result<Option<Stamp>, Memory>
     ensures { IfOk result (λ at. IfSome at (λ at. now < at)) }
 {
+    // Asked for anew in each turn, because which logs may be lost depends on the generations that are chosen by then.
     let chosen = site.directory.epochs(site.alloc)?;
     match site.faults.strikes(turn, chosen.as_slice()) {
         Some(Blow::Crash { node }) => {
+            // A refusal is no blow: the node is not there yet, or is gone.
             Ok(site.directory.crash(site.rt, site.alloc, now, node).ok())
         }
         Some(Blow::Lose { log }) => Ok(site.directory.lose(site.rt, site.alloc, now, log).ok()),

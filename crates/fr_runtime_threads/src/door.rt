@@ -46,6 +46,7 @@ fn after_saying(under_way: UnderWay, outcome: Outcome) -> UnderWay
     match (under_way, outcome) {
         (UnderWay::Open, Outcome::Committed { .. }) => UnderWay::Said(outcome),
         (UnderWay::Open, Outcome::Ended) => UnderWay::Said(outcome),
+        // Waiting says nothing new, and an outcome without a batch under way is none.
         _ => under_way,
     }
 }
@@ -55,6 +56,7 @@ fn enter_crash(notes: &mut Notes) -> Result<(), Memory>
     ensures place { notes.new.journal.node ≡ notes.old.journal.node }
     ensures account { account notes.new.journal.entries ≡ account notes.old.journal.entries }
 {
+    // Stamps are spent: nothing more can be entered of any node of the thread.
     let Some(stamp) = notes.next()? else {
         return Ok(());
     };
@@ -78,6 +80,7 @@ impl Door {
         ensures told { IfOk result (λ door. door.told.items ≡ []) }
     {
         let epoch = generation.epoch();
+        // All before the epoch's first version is known to be committed: that is what `first` means.
         let known = match generation.first().before() {
             Some(known) => known,
             None => Version::ZERO,
@@ -96,12 +99,10 @@ impl Door {
         })
     }
 
-    /// The proxy's epoch.
     pub(crate) fn epoch(&self) -> Epoch {
         self.proxy.epoch()
     }
 
-    /// The greatest stamp that the thread has seen.
     pub(crate) fn seen(&self) -> Stamp {
         self.notes.seen()
     }
@@ -124,7 +125,7 @@ impl Door {
         }
     }
 
-    /// Whether the proxy takes no more.
+    /// Whether the proxy takes no more: its epoch ended, its requests are used up, or it crashed.
     pub(crate) fn is_over(&self) -> bool {
         self.is_over
     }
@@ -143,13 +144,14 @@ impl Door {
             ≡ (account self.old.notes.journal.entries).given }
         ensures gone { OnOk result (self.new.is_gone ≡ true) }
     {
+        // Entered before it counts as gone, because this can fail (invariant 2).
         enter_crash(&mut self.notes)?;
         self.is_over = true;
         self.is_gone = true;
         Ok(())
     }
 
-    /// The asks whose tells are wanted.
+    /// The requests whose replies are still needed: for a number, then to the logs that have not said Held.
     pub(crate) fn pending(&self, alloc: Global) -> Result<Vec<(NodeId, Ask)>, Memory> {
         self.proxy.pending(alloc)
     }
@@ -162,14 +164,19 @@ impl Door {
         ensures given { (account self.new.notes.journal.entries).given ++ left_over kept.new
             ≡ (account self.old.notes.journal.entries).given ++ left_over kept.old }
     {
+        // A copy is handed in. The batch itself stays kept until the proxy took it, and then goes into the entry
+        // (invariant 5).
         let (step, taken) = match kept.as_ref() {
             Some(order) => (order.step, order.batch.copy()?),
             None => return Ok(()),
         };
+        // Before the proxy takes it (invariant 2).
         let Some(stamp) = self.notes.next()? else {
             return Ok(());
         };
         if self.proxy.submit(step, taken).is_err() {
+            // It cannot be TwoOpen, since nothing is under way. After Over or `Memory` this batch waits for the proxy
+            // of the next epoch.
             self.is_over = true;
             return Ok(());
         }
@@ -177,6 +184,7 @@ impl Door {
             let Order { step, batch } = order;
             self.notes.enter(stamp, Act::Submitted { step, batch });
             self.under_way = UnderWay::Open;
+            // A wait that was in vain counts for one batch alone.
             self.waits = true;
         }
         Ok(())
@@ -202,10 +210,10 @@ impl Door {
         ensures under_way { self.new.under_way ≡ UnderWay.Nothing }
     {
         self.told.push_reserved(outcome);
+        // With the outcome moved over, the two sides of `tells` stay equal (invariant 5).
         self.under_way = UnderWay::Nothing;
     }
 
-    /// The journal, closed with the proxy's state.
     pub(crate) fn close(self) -> Journal
         ensures place { result.node ≡ self.notes.journal.node }
         ensures entries { result.entries ≡ self.notes.journal.entries }
@@ -215,8 +223,8 @@ impl Door {
     }
 }
 
-/// Brings a proxy what is late, and sends each of its pending asks once. If a log still lacks the version before a push,
-/// the logs behind it are asked at a later turn.
+/// Brings a proxy what is late, and sends each of its pending asks once. If a log still lacks the version before a
+/// push, the logs behind it are asked at a later turn.
 pub(crate) fn send_all<K: Rack, F: Faults, R: Wait>(
     site: &Site<'_, K, F, R>,
     door: &mut Door,
@@ -226,10 +234,12 @@ pub(crate) fn send_all<K: Rack, F: Faults, R: Wait>(
     ensures given { (account door.new.notes.journal.entries).given ≡ (account door.old.notes.journal.entries).given }
     ensures told { door.new.told.items ≡ door.old.told.items }
 {
+    // First, since a late reply may make some of the requests needless.
     bring_late(site, door, late)?;
     let asks = door.pending(site.alloc)?;
     for (to, ask) in asks.iter() {
         if !send_in_turn(site, door, late, to, ask)? {
+            // The logs behind it would most likely lack the version too: their pushes come at a later turn.
             break;
         }
     }
@@ -252,6 +262,7 @@ fn send_in_turn<K: Rack, F: Faults, R: Wait>(
     door.is_early = false;
     send(site, door, late, to, ask)?;
     if door.is_early && door.waits {
+        // At most one wait in vain a batch, whatever it is that keeps the version before it from coming.
         door.waits = wait_for_turn(site, to, ask);
         if door.waits {
             door.is_early = false;
@@ -269,6 +280,7 @@ fn wait_for_turn<K: Rack, F, R: Wait>(site: &Site<'_, K, F, R>, to: &NodeId, ask
             let log = LogId { epoch, index };
             site.directory.wait_for(site.rt, log, push.prev())
         }
+        // Only pushes depend on another request of the same chain.
         _ => false,
     }
 }
@@ -312,7 +324,9 @@ impl Hearer for Door {
             return Ok(());
         };
         let sender = from;
+        // Looked at before the reply is moved into the entry.
         self.is_early = is_gap(&tell);
+        // The new requests are dropped: `pending` has them at the next turn, together with those that were lost.
         let (outcome, _asks) = self.proxy.hear(alloc, sender, &tell)?;
         let said = outcome;
         let is_end = matches!(&said, Outcome::Ended);
@@ -325,6 +339,7 @@ impl Hearer for Door {
                 outcome: Some(outcome),
             },
         );
+        // After the entry, so that what is under way is always what the journal says (invariant 5).
         let before = self.under_way;
         self.under_way = after_saying(before, said);
         self.is_over = self.is_over || is_end;

@@ -12,7 +12,7 @@ pub enum TurnFault {
     /// There is no memory.
     #[error("out of memory")]
     Memory,
-    /// The store of a storage server failed.
+    /// The store of a storage server failed, and could not be opened again.
     #[error("a store failed")]
     Store,
     /// A log of a later generation could not be made.
@@ -43,6 +43,7 @@ pub(crate) fn fault_of(fault: StoreFault) -> TurnFault
     match fault {
         StoreFault::Memory => TurnFault::Memory,
         StoreFault::Device | StoreFault::Full | StoreFault::Failed => TurnFault::Store,
+        // No server calls its store so. If one did, its store would not be what the server believes.
         StoreFault::NotAfter | StoreFault::BelowFloor | StoreFault::AboveApplied => {
             TurnFault::Store
         }

@@ -6,12 +6,11 @@ use fr_ask::{Ask, Tell};
 use fr_base::{Memory, NodeId, Stamp};
 use std::alloc::Global;
 
-/// An ask or a tell on its way.
+/// A request or a reply on its way.
 #[derive(Drop)]
 pub(crate) enum Message {
-    /// An ask to a node.
     Ask { to: NodeId, ask: Ask },
-    /// What a node told, and at which stamp.
+    /// A reply, and the stamp at which it was given.
     Tell { from: NodeId, at: Stamp, tell: Tell },
 }
 
@@ -25,13 +24,16 @@ pub(crate) struct Letter {
 
 /// The messages that a thread keeps, in the order in which it came to keep them. None is kept for more turns than a
 /// verdict can say, and those that are kept when the thread ends are lost.
+///
+/// They lie with the thread that sent the request, so no thread is added for them. The thread sees the stamp of each
+/// call that it makes, so its later entries come after that call in the audit, which judges a pop by the server's
+/// state at that time.
 #[derive(Drop)]
 pub(crate) struct Late {
     letters: Vec<Letter>,
 }
 
 impl Late {
-    /// Nothing is kept.
     pub(crate) fn new(alloc: Global) -> Self
         ensures { result.letters.items ≡ [] }
     {
@@ -40,7 +42,6 @@ impl Late {
         }
     }
 
-    /// Keeps a message.
     pub(crate) fn keep(&mut self, letter: Letter) -> Result<(), Memory>
         ensures { OnOk result (self.new.letters.items ≡ self.old.letters.items ++ letter ∷ []) }
     {
@@ -52,6 +53,7 @@ impl Late {
         ensures due { IfOk result (λ due. due.items ≡ due_of self.old.letters.items) }
         ensures left { OnOk result (self.new.letters.items ≡ left_of self.old.letters.items) }
     {
+        // Taken out whole and sorted again, so that both lists keep the order in which messages came to be late.
         let kept = std::mem::replace(&mut self.letters, Vec::new(alloc));
         let mut due = Vec::new(alloc);
         for letter in kept {
@@ -65,6 +67,7 @@ impl Late {
         ensures due { OnOk result (due.new.items ≡ due.old.items ++ due_by letter) }
         ensures left { OnOk result (self.new.letters.items ≡ self.old.letters.items ++ left_by letter) }
     {
+        // 0 and 1 are the same: a message that is late comes at the next turn at the earliest.
         if letter.turns <= 1 {
             return put(due, letter);
         }
@@ -85,7 +88,6 @@ fn nearer(letter: Letter) -> Letter
     }
 }
 
-/// Puts an item behind the others.
 pub(crate) fn put<T: Drop>(all: &mut Vec<T>, item: T) -> Result<(), Memory>
     ensures { OnOk result (all.new.items ≡ all.old.items ++ item ∷ []) }
 {

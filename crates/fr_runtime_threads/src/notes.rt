@@ -37,6 +37,7 @@ impl Notes {
         ensures begun { IfOk result (λ notes. StartsWithBegun shape notes.journal.entries) }
     {
         let mut notes = Notes::new(alloc, place, first_stamp());
+        // The first stamp after 0, which no journal has spent yet.
         let Some(stamp) = notes.next()? else {
             unreachable!();
         };
@@ -44,21 +45,19 @@ impl Notes {
         Ok(notes)
     }
 
-    /// The node.
     pub(crate) fn place(&self) -> NodeId
         ensures { result ≡ self.now.journal.node }
     {
         self.journal.node()
     }
 
-    /// The greatest stamp that the thread has seen.
     pub(crate) fn seen(&self) -> Stamp
         ensures { result ≡ self.now.seen }
     {
         self.seen
     }
 
-    /// The thread has seen this stamp.
+    /// Raised, never lowered: stamps of replies come in any order.
     pub(crate) fn see(&mut self, stamp: Stamp)
         ensures journal { self.new.journal ≡ self.old.journal }
         ensures seen { self.new.seen ≡ max self.old.seen stamp }
@@ -77,8 +76,10 @@ impl Notes {
         ensures later { IfOk result (λ next. IfSome next (λ stamp. self.old.seen < stamp)) }
         ensures spent { (result ≡ Ok None) → 2 ^ 40 ≤ self.old.seen + 1 }
     {
+        // One above what the thread has seen, be it an entry of its own or a reply (invariant 1).
         match Stamp::new(self.seen.get() + 1) {
             Some(next) => {
+                // Taken with the stamp: who has a stamp can enter, whatever happens in between (invariant 2).
                 self.journal.reserve()?;
                 Ok(Some(next))
             }
@@ -94,10 +95,10 @@ impl Notes {
         ensures entries { self.new.journal.entries ≡ self.old.journal.entries ++ record { stamp = stamp; act = act } ∷ [] }
     {
         self.journal.push_reserved(Entry { stamp, act });
+        // The entry's own stamp is seen too, so the next one is above it (invariant 1).
         self.seen = stamp;
     }
 
-    /// The journal, closed with this last state.
     pub(crate) fn close(self, last: Last) -> Journal
         ensures place { result.node ≡ self.journal.node }
         ensures entries { result.entries ≡ self.journal.entries }

@@ -22,6 +22,7 @@ pub fn batch_of_one(alloc: Global, mutation: Mutation) -> Result<Batch, Memory>
     let mut mutations = Vec::new(alloc);
     mutations.push(mutation)?;
     match Batch::new(mutations) {
+        // Shared at once, since its copies travel to each log, into turns and into journals.
         Ok(batch) => batch.share(),
         Err(_) => unreachable!(),
     }
@@ -30,9 +31,9 @@ pub fn batch_of_one(alloc: Global, mutation: Mutation) -> Result<Batch, Memory>
 /// What became of the batch that a proxy took last.
 #[derive(Clone, Copy, Debug)]
 pub(crate) enum UnderWay {
-    /// Its workload was told.
+    /// No batch is under way, and the workload was told of all before.
     Nothing,
-    /// Nothing yet.
+    /// The proxy has it, and has said nothing of it.
     Open,
     /// The proxy said this, and the workload was not told yet.
     Said(Outcome),

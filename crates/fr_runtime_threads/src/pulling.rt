@@ -24,7 +24,6 @@ use std::alloc::Global;
 use std::sync::Wait;
 use std::thread::yield_now;
 
-/// A storage server and its journal.
 #[derive(Drop)]
 struct Puller<S: ShardStore> {
     storage: Storage<S>,
@@ -48,6 +47,8 @@ impl<S: ShardStore> Hearer for Puller<S> {
 
     fn may_come(&self, ask: &Ask) -> bool {
         match ask {
+            // A late Pop is judged by the state that the server has when it arrives: a generation that its state
+            // dropped it may not ask.
             Ask::Log(LogAsk::Pop { epoch, .. }) => {
                 of_epoch(self.storage.state().gens(), *epoch).is_some()
             }
@@ -60,6 +61,7 @@ impl<S: ShardStore> Hearer for Puller<S> {
     }
 
     fn hear(&mut self, alloc: Global, from: NodeId, tell: Tell) -> Result<(), TurnFault> {
+        // Before the server hears (invariant 2).
         let Some(stamp) = self.notes.next()? else {
             return Ok(());
         };
@@ -70,7 +72,8 @@ impl<S: ShardStore> Hearer for Puller<S> {
 
 impl<S: ShardStore> Puller<S> {
     /// Tells the storage server what a node told it, and enters as much of that as it took: all of it, or the part at
-    /// whose version it broke off, if a call of its store failed.
+    /// whose version it broke off, if a call of its store failed. A store that fails in a hear ends no run. A server
+    /// that cannot be opened again does.
     fn take_in(
         &mut self,
         alloc: Global,
@@ -88,6 +91,8 @@ impl<S: ShardStore> Puller<S> {
         ensures works { self.old.storage.failed ≡ false → OnOk result (self.new.storage.failed ≡ false) }
     {
         let sender = from;
+        // Only a server that could not be opened again ends the run. A hear that broke off is entered with its
+        // version.
         let taken = unless_fault(take_told(alloc, &mut self.storage, &sender, &tell))?;
         let answer = taken;
         self.notes.enter(
@@ -119,12 +124,13 @@ fn last_said<S: ShardStore>(alloc: Global, storage: &mut Storage<S>) -> Result<L
     if let Ok(last) = last_of_storage(alloc, storage) {
         return Ok(last);
     }
+    // Once: the fault may have been of the one call, and the journal needs a last state.
     unless_fault(storage.reopen(alloc))?;
     unless_fault(last_of_storage(alloc, storage))
 }
 
-/// One turn: it pulls from a holder of its tag, asks a log of the newest epoch for its mark, and has a holder of its own
-/// epoch let go of what it has for good. A turn that brings nothing lets other threads go first.
+/// One turn: it pulls from a holder of its tag, asks a log of the newest epoch for its mark, and has a holder of its
+/// own epoch let go of what it has for good. A turn that brings nothing lets other threads go first.
 fn pull_once<K: Rack, F: Faults, R: Wait, S: ShardStore>(
     site: &Site<'_, K, F, R>,
     puller: &mut Puller<S>,
@@ -133,17 +139,21 @@ fn pull_once<K: Rack, F: Faults, R: Wait, S: ShardStore>(
 ) -> Result<(), TurnFault>
     ensures node { puller.new.notes.journal.node ≡ puller.old.notes.journal.node }
 {
+    // Position and not floor: a turn that only lets undo rows go brought no record (invariant 9).
     let before = puller.storage.position();
     bring_late(site, puller, late)?;
     let (epoch, ask) = puller.storage.next_ask();
     let tag = puller.storage.tag();
     if let Some(source) = of_epoch(puller.storage.state().gens(), epoch) {
+        // Another holder each turn, so that one that is lost costs a turn and not the records.
         let to = holder_at(source, tag, turn);
         send(site, puller, late, &to, &Ask::Log(ask))?;
     }
+    // Asked for its mark in every turn: nobody tells a storage server that there is a later epoch.
     let newest = site.directory.newest().generation;
     let to = log_at(newest.epoch(), newest.m(), turn);
     send(site, puller, late, &to, &Ask::Log(mark_ask(newest.epoch())))?;
+    // Taken after the mark was heard, since the state may be another one by now.
     let own = puller.storage.state().last();
     let ask = puller.storage.pop_ask(own.epoch());
     let to = holder_at(own, tag, turn);
@@ -151,6 +161,7 @@ fn pull_once<K: Rack, F: Faults, R: Wait, S: ShardStore>(
     if puller.storage.position() == before {
         yield_now();
     }
+    // At the end of the turn, with no lock held (invariant 8).
     site.faults.pulled(tag, turn);
     Ok(())
 }

@@ -15,10 +15,10 @@ pub trait Rack {
     ghost use Rattle.fr_base.specs.declared.node.NodeFault.{NodeFault};
     ghost use Rattle.fr_undo.specs.declared.fault.StoreFault.{StoreFault};
 
-    /// A coordinator's cell.
+    /// A coordinator's cell, over whatever the rack keeps it on.
     type Cell: Node<Plain = Cell> + Send + Drop;
 
-    /// A log.
+    /// A log, over whatever the rack keeps it on.
     type Log: Node<Plain = Log> + Send + Drop;
 
     /// The store of a storage server.
@@ -30,7 +30,7 @@ pub trait Rack {
     /// Those with which a store may be.
     ghost CanRefuseStore: { Self → StoreFault → Type 0 };
 
-    /// The cell of this number.
+    /// The cell of this number, fresh: never asked, with promised and written 0.
     fn cell(&self, alloc: Global, index: u8) -> Result<Self::Cell, NodeFault>
         ensures works { IfOk result (λ node. Self.Cell.is_failed node ≡ false) }
         ensures free { IfOk result (λ node. Self.Cell.owed node ≡ None) }
@@ -48,7 +48,7 @@ pub trait Rack {
         ensures fresh { IfOk result (λ node. Self.Log.state node ≡ fresh_log id.epoch id.index m k) }
         ensures refused { IfErr result (CanRefuse self.now) };
 
-    /// The store of this tag.
+    /// The store of this tag, fresh: empty, at version 0.
     fn store(&self, alloc: Global, tag: Tag) -> Result<Self::Store, StoreFault>
         ensures works { IfOk result (λ store. Self.Store.is_failed store ≡ false) }
         ensures fresh { IfOk result (λ store. Self.Store.state store ≡ fresh) }
@@ -71,6 +71,7 @@ impl Rack for PlainRack {
     ghost CanRefuseStore = { λ rack fault. ⊥ };
 
     fn cell(&self, alloc: Global, _index: u8) -> Result<InMemory<Cell>, NodeFault> {
+        // In memory all cells are made alike: the number matters to a device alone.
         Ok(InMemory::new(Cell::new(alloc)))
     }
 

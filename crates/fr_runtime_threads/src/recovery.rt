@@ -59,8 +59,10 @@ impl Hearer for Recovery {
         let Some(stamp) = self.notes.next()? else {
             return Ok(());
         };
+        // The recoverer takes the reply by value, and the entry needs it too.
         let heard = tell.copy()?;
         let sender = from;
+        // Dropped, as a proxy's are: `pending` has them, with those that got lost.
         let _asks = self.recoverer.hear(alloc, sender, heard)?;
         self.notes.enter(
             stamp,
@@ -76,7 +78,6 @@ impl Hearer for Recovery {
 }
 
 impl Recovery {
-    /// The recoverer crashes, and is gone.
     fn crash(&mut self) -> Result<(), Memory>
         ensures node { self.new.notes.journal.node ≡ self.old.notes.journal.node }
         ensures shape { self.new.shape ≡ self.old.shape }
@@ -111,6 +112,7 @@ fn begin(
 {
     let map = config.map().copy()?;
     let recoverer = Recoverer::begin(alloc, ballot, config.coordinators(), map, *shape);
+    // The entry Begun is made with the journal, so that no journal of a recoverer lacks it.
     let notes = Notes::begun(alloc, NodeId::Recoverer { ballot }, *shape)?;
     Ok(Recovery {
         recoverer,
@@ -150,6 +152,7 @@ fn fresh_logs<K: Rack>(
     let mut logs = Vec::new(alloc);
     for index in 0..generation.m() {
         let log = fresh_log(alloc, rack, generation, index)?;
+        // By rising numbers, as the directory looks them up.
         put(&mut logs, Station::new(log))?;
     }
     Ok(logs)
@@ -164,19 +167,25 @@ fn show<K: Rack, F, R: Wait>(
     let Some(generation) = recovery.recoverer.generation() else {
         return Ok(shown);
     };
+    // All that led here was entered at or below this stamp. Callers of the new nodes are raised to it.
     let stamp = recovery.notes.seen();
     let epoch = generation.epoch();
     let mut shown = shown;
     if shown == Shown::Nothing && recovery.recoverer.is_copied() {
+        // Once all is copied, and before the Seeds of this turn are sent (invariant 6). Each epoch has them made
+        // once.
         let logs = fresh_logs(site.alloc, site.rack, generation)?;
         site.directory.publish_logs(site.rt, epoch, logs, stamp);
         shown = Shown::Logs;
     }
     if shown == Shown::Logs && recovery.recoverer.is_chosen() {
+        // The sequencer goes on from the mark, whose version is `seeded_to + 1`.
         if let Some(last) = generation.seeded_to().after() {
             let sequencer = InMemory::new(Sequencer::new(site.alloc, epoch, last));
             let housed = Housed::new(site.alloc, sequencer, NodeId::Sequencer { epoch });
             let chosen = Chosen { generation, stamp };
+            // Before the marks are sent: a proxy may get a number now, but a log refuses its push as Gap until it
+            // holds the mark (invariant 6).
             site.directory.publish_epoch(site.rt, housed, chosen);
             shown = Shown::Epoch;
         }
@@ -195,10 +204,12 @@ fn recover_once<K: Rack, F: Faults, R: Wait>(
     ensures shape { recovery.new.shape ≡ recovery.old.shape }
 {
     bring_late(site, recovery, late)?;
+    // Before the requests are sent: they may go to logs that are published here (invariant 6).
     let mut shown = show(site, recovery, shown)?;
     let asks = recovery.recoverer.pending(site.alloc)?;
     for (to, ask) in asks.iter() {
         send(site, recovery, late, to, ask)?;
+        // After each reply, so that proxies find the new epoch as soon as it is chosen.
         shown = show(site, recovery, shown)?;
     }
     Ok(shown)
@@ -208,13 +219,14 @@ fn recover_once<K: Rack, F: Faults, R: Wait>(
 fn is_done(alloc: Global, recovery: &Recovery) -> Result<bool, Memory> {
     match recovery.recoverer.phase() {
         Phase::Lost { .. } => Ok(true),
+        // A chosen epoch without its marks takes no commit, and no other thread would push them.
         Phase::Chosen { .. } => Ok(recovery.recoverer.pending(alloc)?.is_empty()),
         _ => Ok(false),
     }
 }
 
-/// The first of so many turns at which the recoverer of a ballot begins, if there is one. Each turn at which it does not
-/// lets other threads go first.
+/// The first of so many turns at which the recoverer of a ballot begins, if there is one. Each turn at which it does
+/// not lets other threads go first.
 fn first_turn<F: Faults>(faults: &F, ballot: Ballot, turns: u32) -> Option<u32>
     ensures { IfNone result ((before : ℕ) → before < turns → F.begun faults.now ballot (before + 1) ≡ false) }
 {
@@ -222,13 +234,14 @@ fn first_turn<F: Faults>(faults: &F, ballot: Ballot, turns: u32) -> Option<u32>
         if faults.begins(ballot, before + 1) {
             return Some(before + 1);
         }
+        // Invariant 9.
         yield_now();
     }
     None
 }
 
-/// Takes the turns of a recoverer from this one on, and says whether nothing is left to do. If it crashes it is gone, and
-/// takes no further one.
+/// Takes the turns of a recoverer from this one on, and says whether nothing is left to do. If it crashes it is gone,
+/// and takes no further one.
 fn take_turns<K: Rack, F: Faults, R: Wait>(
     site: &Site<'_, K, F, R>,
     recovery: &mut Recovery,
@@ -243,6 +256,7 @@ fn take_turns<K: Rack, F: Faults, R: Wait>(
     for turn in from..=turns {
         if site.faults.ends(recovery.notes().place(), turn) {
             recovery.crash()?;
+            // Not done: its marks may be missing, so nobody is to wait for its logs (invariant 7).
             return Ok(false);
         }
         shown = recover_once(site, recovery, &mut late, shown)?;
@@ -253,8 +267,8 @@ fn take_turns<K: Rack, F: Faults, R: Wait>(
     Ok(false)
 }
 
-/// The turns of a recoverer that begins at this one, and its journal. If it ends before the logs of its epoch hold their
-/// marks, nobody waits for them.
+/// The turns of a recoverer that begins at this one, and its journal. If it ends before the logs of its epoch hold
+/// their marks, nobody waits for them.
 fn recovered<K: Rack, F: Faults, R: Wait>(
     site: &Site<'_, K, F, R>,
     ballot: Ballot,
@@ -268,6 +282,7 @@ fn recovered<K: Rack, F: Faults, R: Wait>(
 {
     let mut recovery = begin(site.alloc, site.config, ballot, &shape)?;
     let ran = take_turns(site, &mut recovery, from, turns);
+    // Also if the turns ended in a fault, which is handed on below (invariant 7).
     if !matches!(ran, Ok(true)) {
         let_go(site, ballot);
     }
@@ -301,6 +316,7 @@ pub fn recover<K: Rack, F: Faults, R: Wait>(
     ensures begins { ballot ≢ 0 → (turn : ℕ) → 1 ≤ turn → turn ≤ turns → F.begun site.now.faults.now ballot turn ≡ true
         → IfOk result (λ done. IsSome done) }
 {
+    // Ballot 0 belongs to cells that were never asked: no recoverer has it.
     if ballot.epoch().is_none() {
         return Ok(None);
     }

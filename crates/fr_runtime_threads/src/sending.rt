@@ -72,10 +72,12 @@ pub(crate) fn send<K: Rack, F: Faults, R: Wait, H: Hearer>(
     ensures given { H.given hearer.new ≡ H.given hearer.old }
     ensures told { H.told hearer.new ≡ H.told hearer.old }
 {
+    // Read now: when a late message comes, the thread may have another node (invariant 4).
     let by = hearer.notes().place();
     match site.faults.verdict(*to, ask) {
         Verdict::DropAsk => Ok(()),
         Verdict::DropTell => {
+            // The node acts all the same, and the stamp is seen (invariant 3).
             let _lost = call(site, hearer, by, to, ask)?;
             Ok(())
         }
@@ -84,11 +86,13 @@ pub(crate) fn send<K: Rack, F: Faults, R: Wait, H: Hearer>(
             exchange(site, hearer, by, to, ask)?;
             exchange(site, hearer, by, to, ask)
         }
+        // Kept without a call: it is stamped when it arrives, and not when it was sent.
         Verdict::LateAsk { turns } => {
             let (to, ask) = (*to, ask.copy()?);
             let message = Message::Ask { to, ask };
             Ok(late.keep(Letter { by, turns, message })?)
         }
+        // The node acts now, and its stamp goes with the reply.
         Verdict::LateTell { turns } => match call(site, hearer, by, to, ask)? {
             Some((at, tell)) => {
                 let message = Message::Tell {
@@ -135,6 +139,7 @@ fn bring<K: Rack, F: Faults, R: Wait, H: Hearer>(
     let Letter { by, message, .. } = letter;
     match message {
         Message::Ask { to, ask } => {
+            // The sender's state is asked again, because it may have changed since the request was made.
             if hearer.may_come(&ask) {
                 exchange(site, hearer, by, &to, &ask)
             } else {
@@ -181,7 +186,9 @@ fn hear<K: Rack, F: Faults, R: Wait, H: Hearer>(
     ensures hears { (H.notes hearer.old).journal.node ≡ by → OnOk result (HasHeard (H.notes hearer.old).journal.entries
         (H.notes hearer.new).journal.entries (max (H.notes hearer.old).seen at) from tell) }
 {
+    // Invariant 4.
     if hearer.notes().place() == by {
+        // Before it hears: its entry has to come after the one in which the reply was given (invariant 1).
         hearer.see(at);
         hearer.hear(site.alloc, from, tell)
     } else {
@@ -189,8 +196,8 @@ fn hear<K: Rack, F: Faults, R: Wait, H: Hearer>(
     }
 }
 
-/// Calls a node for one that asks: what it told, and the stamp of that. A call that is refused tells nothing. The thread
-/// sees the stamp even if the tell is lost or late: what it enters next comes after the ask.
+/// Calls a node for one that asks: what it told, and the stamp of that. A call that is refused tells nothing. The
+/// thread sees the stamp even if the tell is lost or late: what it enters next comes after the ask.
 fn call<K: Rack, F: Faults, R: Wait, H: Hearer>(
     site: &Site<'_, K, F, R>,
     hearer: &mut H,
@@ -205,13 +212,16 @@ fn call<K: Rack, F: Faults, R: Wait, H: Hearer>(
     ensures journal { (H.notes hearer.new).journal ≡ (H.notes hearer.old).journal }
     ensures seen { IfOk result (λ told. IfSome told (λ told. told.0 ≤ (H.notes hearer.new).seen)) }
 {
+    // A copy, since the request may have to be sent again, and faults are told of it afterwards.
     let sent = ask.copy()?;
     let told = site
         .directory
         .call(site.rt, site.alloc, hearer.notes().seen(), by, *to, sent)
         .ok();
     if let Some((at, _)) = &told {
+        // Here and not where the reply is heard: it may never be (invariant 3).
         hearer.see(*at);
+        // After the call, so no lock is held (invariant 8).
         site.faults.answered(*to, ask);
     }
     Ok(told)

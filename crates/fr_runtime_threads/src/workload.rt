@@ -26,7 +26,7 @@ pub trait Workload {
         ensures heard { heard self.new ≡ heard self.old }
         ensures err { OnErr result (given self.new ≡ given self.old) };
 
-    /// Is told what became of the first batch of which it was told nothing. Out of memory it is told nothing.
+    /// Receives the outcome of its oldest open batch. `Memory` records nothing.
     fn told(&mut self, outcome: Outcome) -> Result<(), Memory>
         ensures heard { OnOk result (heard self.new ≡ heard self.old ++ outcome ∷ []) }
         ensures given { given self.new ≡ given self.old }

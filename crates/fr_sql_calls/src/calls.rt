@@ -35,6 +35,7 @@ fn write<S: Backing>(conn: &mut Connection<S>, marks: &Marks, work: &Work) -> Re
     ensures makes { (after : StoreState) → LeadsTo work.now (state S.Store conn.old).now after
         → Makes after (state S.Store conn.old) (state S.Store conn.new) result }
 {
+    // The number of rows goes in and comes out changed, so that no call counts them in the table (invariant 4).
     make(conn, work, marks.rows)
 }
 
@@ -51,6 +52,7 @@ fn try_apply<S: Backing>(
     ensures makes { Makes (extended (state_in (state S.Store conn.old).now.trees) version batch.now)
         (state S.Store conn.old) (state S.Store conn.new) result }
 {
+    // Planned in full before the transaction begins (invariant 2).
     let work = plan_apply(alloc, conn, marks, version, batch)?;
     write(conn, marks, &work)
 }
@@ -80,6 +82,8 @@ fn try_advance<S: Backing>(
     requires stands { Stands (state S.Store conn.old) marks.now.applied marks.now.floor marks.now.rows }
     ensures makes { Makes (advanced (state_in (state S.Store conn.old).now.trees) version) (state S.Store conn.old) (state S.Store conn.new) result }
 {
+    // Nothing is read: the new row of `meta` is known from the marks (invariant 4). The floor is written again, since
+    // one statement sets both.
     let work = Work {
         changes: BTreeMap::new(alloc),
         rows: RowWork::Keep,
@@ -104,6 +108,8 @@ fn try_forget<S: Backing>(
 {
     let work = Work {
         changes: BTreeMap::new(alloc),
+        // Rows and floor in one transaction (invariant 1): a floor above rows that are there, or below rows that are
+        // gone, is no store's.
         rows: RowWork::DropThrough(version),
         meta: MetaWork::Versions {
             applied: marks.applied,
@@ -126,6 +132,7 @@ fn try_set_state<S: Backing>(
     let work = Work {
         changes: BTreeMap::new(alloc),
         rows: RowWork::Keep,
+        // The versions in `meta` stay as they are: only its bytes are written.
         meta: MetaWork::State { bytes },
     };
     write(conn, marks, &work)
@@ -143,6 +150,8 @@ fn try_value_then<S: Backing>(
     ensures value { IfOk result (λ value. value ≡ value_undone (state_in (state S.Store conn.old).now.trees) version key.now) }
     ensures looks { Looks (state S.Store conn.old) (state S.Store conn.new) result }
 {
+    // The row of least version above holds what the key had (invariant 3 of fr_undo). Without one it did not change
+    // since. The statement walks the rows above the version, because the table is sorted by version first.
     match first_above(conn, key, version)? {
         Some(before) => Ok(before),
         None => held_value(conn, key),
@@ -163,10 +172,11 @@ pub fn value_then<S: Backing>(
     ensures looks { Looks (state S.Store conn.old) (state S.Store conn.new) result }
     ensures told { IfErr result (IsTold told.old told.new) }
 {
+    // Counted here, at the last place before the fault leaves the crate (invariant 7). So it is in each call below.
     told.told(try_value_then(conn, marks, key, version))
 }
 
-/// The value at a key.
+/// The value at a key now, by one statement over the primary key.
 pub fn value<S: Backing>(
     conn: &mut Connection<S>,
     told: &mut Refusals,
@@ -212,7 +222,7 @@ pub fn dump<S: Backing>(
     told.told(all(alloc, conn))
 }
 
-/// The state bytes.
+/// The state bytes, as they were set last; empty in a new store.
 pub fn bytes<S: Backing>(conn: &mut Connection<S>, told: &mut Refusals) -> Result<Bytes, StoreFault>
     requires rest { IsAtRest (state S.Store conn.old) }
     requires laid { IsLaidOut (state S.Store conn.old).now }
@@ -238,6 +248,7 @@ pub fn apply<S: Backing>(
         (state S.Store conn.old) (state S.Store conn.new) result }
     ensures told { IfErr result (IsTold told.old told.new) }
 {
+    // One door for the faults of plan and transaction alike (invariant 7).
     told.told(try_apply(alloc, conn, marks, version, batch))
 }
 

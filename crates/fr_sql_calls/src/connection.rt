@@ -46,13 +46,16 @@ fn settle<S: Backing>(conn: &mut Connection<S>, refused: Refused) -> Trouble
     ensures opened { result ≢ StoreFault.Device → IsTrue (state S.Store conn.new).is_open }
     ensures steps { Steps (state S.Store conn.old) (state S.Store conn.new) }
 {
+    // Asked after the refusal and not before the statement: only then does the answer speak of what the call leaves
+    // (invariant 6).
     match works(conn) {
         Ok(()) => refused.trouble(),
+        // `Device` whatever was refused first: the state of a connection that is shut cannot be shown.
         Err(asked) => refused.shut(asked),
     }
 }
 
-/// The value at a key.
+/// The value at a key, by one statement.
 pub fn value<S: Backing>(conn: &mut Connection<S>, key: &Bytes) -> Result<Option<Bytes>, Trouble>
     requires rest { IsAtRest (state S.Store conn.old) }
     requires laid { IsLaidOut (state S.Store conn.old).now }
@@ -61,11 +64,12 @@ pub fn value<S: Backing>(conn: &mut Connection<S>, key: &Bytes) -> Result<Option
 {
     match kv::value_at(conn, key) {
         Ok(value) => Ok(value),
+        // Each statement that is refused comes by here (invariant 6).
         Err(refused) => Err(settle(conn, refused)),
     }
 }
 
-/// All keys with their values.
+/// All keys with their values, in the order of the keys.
 pub fn all<S: Backing>(
     alloc: Global,
     conn: &mut Connection<S>,
@@ -95,12 +99,13 @@ fn shard_rows<S: Backing>(
     ensures survives { CommitsNothing (state S.Store conn.old) (state S.Store conn.new) }
 {
     match &shard.end {
+        // Two statements, because SQL has no end that is above all keys.
         Some(end) => kv::between(alloc, conn, &shard.begin, end),
         None => kv::from(alloc, conn, &shard.begin),
     }
 }
 
-/// The keys of a shard with their values.
+/// The keys of a shard with their values, in the order of the keys.
 pub fn of_shard<S: Backing>(
     alloc: Global,
     conn: &mut Connection<S>,
@@ -174,7 +179,7 @@ pub fn first_above<S: Backing>(
     }
 }
 
-/// The state bytes.
+/// The state bytes, in the one row of `meta`.
 pub fn bytes<S: Backing>(conn: &mut Connection<S>) -> Result<Bytes, Trouble>
     requires rest { IsAtRest (state S.Store conn.old) }
     requires laid { IsLaidOut (state S.Store conn.old).now }
@@ -197,8 +202,10 @@ fn attempt<S: Backing>(conn: &mut Connection<S>, work: &Work, rows: usize) -> Re
     ensures keeps { OnErr result (KeepsIfOpen (state S.Store conn.old) (state S.Store conn.new)) }
     ensures survives { Survives (state S.Store conn.old) (state S.Store conn.new) (MayMake (Does work.now) (state S.Store conn.old)) }
 {
+    // Dropped without a commit, it is rolled back: so each `?` below leaves the tables as they were (invariant 1).
     let mut tx = conn.transaction();
     let count = fill(&mut tx, work, rows)?;
+    // The one moment at which all of the work is there, for readers and for a crash (invariant 1).
     commit(tx)?;
     Ok(count)
 }
@@ -222,6 +229,7 @@ pub fn make<S: Backing>(
 {
     match attempt(conn, work, rows) {
         Ok(count) => Ok(count),
+        // A commit that failed may have shut the connection, though it was refused for room or memory (invariant 6).
         Err(refused) => Err(settle(conn, refused)),
     }
 }

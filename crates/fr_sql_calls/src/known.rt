@@ -25,13 +25,13 @@ fn add(known: &mut BTreeMap<Bytes, Bytes>, key: &Bytes, held: Option<Bytes>) -> 
     requires { tree.get bytes_cmp known.old key.now ≡ None }
     ensures { OnOk result ((q : List ℕ) → tree.get bytes_cmp known.new q ≡ cond (is_same key.now q) held (tree.get bytes_cmp known.old q)) }
 {
+    // A key without a value is left out: in the plan's tree that is what not to be there means (invariant 3).
     if let Some(held) = held {
         known.insert(key.copy()?, held)?;
     }
     Ok(())
 }
 
-/// Looks a key up, unless it is known.
 fn look_key<S: Backing>(
     conn: &mut Connection<S>,
     known: &mut BTreeMap<Bytes, Bytes>,
@@ -42,6 +42,8 @@ fn look_key<S: Backing>(
     ensures looked { OnOk result (LooksUp (is_same key.now) (value_in ((state S.Store conn.old).now.trees 0)) known.old known.new) }
     ensures looks { Looks (state S.Store conn.old) (state S.Store conn.new) result }
 {
+    // One statement for a key that has a value, however often the batch names it. One without is asked for again,
+    // which is harmless.
     if known.contains_key(key) {
         return Ok(());
     }
@@ -56,6 +58,8 @@ fn add_pair(known: &mut BTreeMap<Bytes, Bytes>, key: Bytes, held: Bytes) -> Resu
         → tree.get bytes_cmp known.new q ≡ option_or (tree.get bytes_cmp known.old q)
         (cond (is_same key q) (Some held) None)) }
 {
+    // A key that an earlier range or mutation brought is known already, with the same value: nothing is written in
+    // between (invariant 2).
     if !known.contains_key(&key) {
         known.insert(key, held)?;
     }
@@ -72,7 +76,6 @@ fn add_pairs(known: &mut BTreeMap<Bytes, Bytes>, rows: Vec<(Bytes, Bytes)>) -> R
     Ok(())
 }
 
-/// Looks the keys of a range up.
 fn look_range<'x, S: Backing>(
     alloc: Global,
     conn: &mut Connection<S>,
@@ -103,7 +106,9 @@ fn look<S: Backing>(
     ensures looks { Looks (state S.Store conn.old) (state S.Store conn.new) result }
 {
     match mutation {
+        // One statement for the whole range, since a clear may cover many keys.
         Mutation::Clear { begin, end } => look_range(alloc, conn, known, begin, end),
+        // A set needs no value before it, but its undo row does (invariant 2).
         Mutation::Set { key, .. } => look_key(conn, known, key),
         Mutation::Atomic { key, .. } => look_key(conn, known, key),
     }
@@ -137,13 +142,13 @@ fn add_row(
         → tree.get place_cmp rows.new p ≡ option_or (tree.get place_cmp rows.old p)
         (cond (tree.is_at (place_cmp place) p) (Some before) None)) }
 {
+    // Places are unique in the table, so nothing is passed over here. The test spares the contract a premise.
     if !rows.contains_key(&place) {
         rows.insert(place, before)?;
     }
     Ok(())
 }
 
-/// The tree of undo rows.
 fn tree_of(
     alloc: Global,
     rows: Vec<((Version, Bytes), Option<Bytes>)>,
@@ -157,7 +162,7 @@ fn tree_of(
     Ok(found)
 }
 
-/// The undo rows above a version.
+/// By version and then by key, as the undo of fr_undo walks them.
 pub(crate) fn rows_above<S: Backing>(
     alloc: Global,
     conn: &mut Connection<S>,
@@ -174,7 +179,7 @@ pub(crate) fn rows_above<S: Backing>(
     Ok(tree_of(alloc, rows)?)
 }
 
-/// What the keys of undo rows hold.
+/// What the keys of undo rows hold now.
 pub(crate) fn held_at<S: Backing>(
     alloc: Global,
     conn: &mut Connection<S>,
@@ -187,6 +192,8 @@ pub(crate) fn held_at<S: Backing>(
 {
     let mut known = BTreeMap::new(alloc);
     for ((_, key), _) in rows.iter() {
+        // Each key once, though it may have a row at several versions: what it holds now decides whether it changes
+        // (invariant 2).
         look_key(conn, &mut known, key)?;
     }
     Ok(known)

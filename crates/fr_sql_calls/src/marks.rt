@@ -4,10 +4,10 @@ use fr_base::Version;
 /// What a store knows of its tables without reading them.
 #[derive(Clone, Copy, Debug)]
 pub struct Marks {
-    /// The version applied last.
+    /// The version of the batch applied last, or the one to which the store was advanced or undone since.
     pub applied: Version,
-    /// The version below which nothing can be undone.
+    /// At most `applied`; nothing below it can be undone.
     pub floor: Version,
-    /// How many undo rows there are.
+    /// Undo rows in the table: one for each key and version above the floor that changed it.
     pub rows: usize,
 }

@@ -32,10 +32,12 @@ pub(crate) fn plan_apply<S: Backing>(
     ensures looks { Looks (state S.Store conn.old) (state S.Store conn.new) result }
 {
     let known = held_by(alloc, conn, batch)?;
+    // The tree has only the keys that the batch touches, and the plan asks for no others (invariant 3).
     untouched_law();
     let changes = changes_of(alloc, &known, batch)?;
     Ok(Work {
         changes,
+        // At this version no row stands yet (invariant 5).
         rows: RowWork::Note(version),
         meta: MetaWork::Versions {
             applied: version,
@@ -56,11 +58,13 @@ pub(crate) fn plan_undo<S: Backing>(
     ensures leads { IfOk result (λ work. LeadsTo work (state S.Store conn.old).now (undone (state_in (state S.Store conn.old).now.trees) version)) }
     ensures looks { Looks (state S.Store conn.old) (state S.Store conn.new) result }
 {
+    // Rows first, because they say which keys have to be read (invariant 3).
     let rows = rows_above(alloc, conn, version)?;
     let known = held_at(alloc, conn, &rows)?;
     let changes = changes_above(alloc, &known, &rows, version, marks.applied)?;
     Ok(Work {
         changes,
+        // The rows go with the values that they gave back, in one transaction (invariant 1).
         rows: RowWork::DropAbove(version),
         meta: MetaWork::Versions {
             applied: version,

@@ -13,10 +13,10 @@ use fr_undo::Change;
 use sqlite::Transaction;
 use std::collections::BTreeMap;
 
-/// What becomes of the undo rows.
+/// What a transaction does with the undo rows.
 #[derive(Debug, Drop)]
 pub enum RowWork {
-    /// They stay.
+    /// They stay as they are.
     Keep,
     /// Each key that a change gives something else than it held gets one, at this version.
     Note(Version),
@@ -26,27 +26,26 @@ pub enum RowWork {
     DropThrough(Version),
 }
 
-/// What becomes of the row of `meta`.
+/// What a transaction writes into the one row of `meta`.
 #[derive(Debug, Drop)]
 pub enum MetaWork {
-    /// It takes the version applied and the floor.
+    /// The version applied and the floor; the bytes stay.
     Versions { applied: Version, floor: Version },
-    /// It takes the state bytes.
+    /// The state bytes; both versions stay.
     State { bytes: Bytes },
 }
 
-/// What one transaction makes of the tables.
+/// All that one transaction does to the three tables.
 #[derive(Debug, Drop)]
 pub struct Work {
-    /// What the keys take.
+    /// By key: what it holds, and what it is to hold. Equal ones write nothing.
     pub changes: BTreeMap<Bytes, Change>,
-    /// What becomes of the undo rows.
+    /// What happens to the undo rows, in the same transaction.
     pub rows: RowWork,
-    /// What becomes of the row of `meta`.
+    /// What is written into the one row of `meta`, in the same transaction.
     pub meta: MetaWork,
 }
 
-/// Gives a key what its change says.
 fn put_one<S: Backing>(
     tx: &mut Transaction<'_, S>,
     key: &Bytes,
@@ -62,6 +61,8 @@ fn put_one<S: Backing>(
     ensures survives { CommitsNothing (state S.Store tx.old.conn.now) (state S.Store tx.new.conn.now) }
 {
     match &change.after {
+        // Whether the key has a value decides between UPDATE and INSERT. It was read before the transaction, and
+        // nobody else writes (invariant 2).
         Some(value) => kv::set(tx, key, value, change.before.is_some()),
         None => kv::remove(tx, key),
     }
@@ -82,6 +83,7 @@ fn write_one<S: Backing>(
     ensures stays { Stays (state S.Store tx.old.conn.now) (state S.Store tx.new.conn.now) }
     ensures survives { CommitsNothing (state S.Store tx.old.conn.now) (state S.Store tx.new.conn.now) }
 {
+    // No statement, and so no page of the file, for a key that stays as it is.
     if is_same_value(&change.before, &change.after) {
         return Ok(());
     }
@@ -89,7 +91,6 @@ fn write_one<S: Backing>(
     Ok(())
 }
 
-/// Gives each key what its change says.
 fn write_all<S: Backing>(
     tx: &mut Transaction<'_, S>,
     changes: &BTreeMap<Bytes, Change>,
@@ -109,7 +110,6 @@ fn write_all<S: Backing>(
     Ok(())
 }
 
-/// Whether two values, or nones, are one.
 fn is_same_value(a: &Option<Bytes>, b: &Option<Bytes>) -> bool
     ensures { result ≡ same_value a.now b.now }
 {
@@ -120,7 +120,6 @@ fn is_same_value(a: &Option<Bytes>, b: &Option<Bytes>) -> bool
     }
 }
 
-/// Adds the undo row of a key.
 fn note<S: Backing>(
     tx: &mut Transaction<'_, S>,
     version: Version,
@@ -138,6 +137,7 @@ fn note<S: Backing>(
 {
     match before {
         Some(before) => undo::note_value(tx, version, key, before),
+        // NULL and not an empty blob, which is a value of its own.
         None => undo::note_none(tx, version, key),
     }
 }
@@ -161,9 +161,11 @@ fn note_one<S: Backing>(
     ensures stays { Stays (state S.Store tx.old.conn.now) (state S.Store tx.new.conn.now) }
     ensures survives { CommitsNothing (state S.Store tx.old.conn.now) (state S.Store tx.new.conn.now) }
 {
+    // The same test as for the value: a row exactly where the value changes (invariant 2 of fr_undo).
     if is_same_value(&change.before, &change.after) {
         return Ok(rows);
     }
+    // Before the row is written, because more rows than a number can say are refused.
     let more = one_more(rows)?;
     note(tx, version, key, &change.before)?;
     Ok(more)
@@ -214,9 +216,11 @@ fn fill_rows<S: Backing>(
     ensures survives { CommitsNothing (state S.Store tx.old.conn.now) (state S.Store tx.new.conn.now) }
 {
     match work {
+        // No statement at all, since `advance` and `set_state` leave the rows alone.
         RowWork::Keep => Ok(rows),
         RowWork::Note(version) => note_all(tx, *version, changes, rows),
         RowWork::DropAbove(version) => {
+            // The statement tells how many rows went, so none is counted (invariant 4).
             let gone = undo::drop_above(tx, *version)?;
             Ok(rows.saturating_sub(gone))
         }
@@ -238,6 +242,7 @@ fn fill_meta<S: Backing>(tx: &mut Transaction<'_, S>, work: &MetaWork) -> Result
     ensures survives { CommitsNothing (state S.Store tx.old.conn.now) (state S.Store tx.new.conn.now) }
 {
     match work {
+        // By one statement each, so that neither writes what the other call set.
         MetaWork::Versions { applied, floor } => meta::note_versions(tx, *applied, *floor),
         MetaWork::State { bytes } => meta::note_bytes(tx, bytes),
     }
@@ -259,6 +264,7 @@ pub(crate) fn fill<S: Backing>(
     ensures stays { Stays (state S.Store tx.old.conn.now) (state S.Store tx.new.conn.now) }
     ensures survives { CommitsNothing (state S.Store tx.old.conn.now) (state S.Store tx.new.conn.now) }
 {
+    // Rows before values, though the order shows nowhere outside: the transaction is seen as a whole (invariant 1).
     let count = fill_rows(tx, &work.rows, &work.changes, rows)?;
     write_all(tx, &work.changes)?;
     fill_meta(tx, &work.meta)?;

@@ -21,6 +21,9 @@ use std::alloc::Global;
 /// call that met the fault, or the one that it was to make. It answers `Device`, and may be asked again, while the
 /// files fail; it answers so for good if a sync failed, or if another program made the tables by other statements.
 /// [`SqlFileStore::into_files`] gives the files back then too.
+///
+/// It is a type of its own: an `SqlStore` while its connection works, otherwise the rest that a refused opening left.
+/// A refused `reopen` keeps the files, so that a later one can try again.
 pub type SqlFileStore<D> = TableStore<FileStore<D>>;
 
 impl<D: FaithfulDisk + Drop> SqlFileStore<D> {
@@ -62,6 +65,9 @@ impl<D: FaithfulDisk + Drop> SqlFileStore<D> {
     /// # Errors
     ///
     /// `NoStore`: the files hold something else. `Fault`: they failed, have no room, or a growth was refused.
+    ///
+    /// It is one call, since `open` cannot tell files without a store from files that fail. To a database that lists
+    /// anything else nothing is added.
     pub fn open_or_create(alloc: Global, files: Files<D>) -> Result<Self, OpenFault>
         ensures found { IfOk result (λ store. (x : StoreState) → HoldStore D.Disk files x → ⟦<SqlFileStore<D> as ShardStore>⟧.state store ≡ x) }
         ensures made { IfOk result (λ store. D.Disk.seen files.db ≡ [] → ⟦<SqlFileStore<D> as ShardStore>⟧.state store ≡ fresh) }

@@ -8,7 +8,7 @@ use fr_base::Epoch;
 use fr_log::{LogAsk, LogTell, Peeked};
 use fr_state::CoordState;
 
-/// What a log answers a storage server.
+/// The two replies of logs that change a storage server.
 #[derive(Drop)]
 pub enum LogAnswer {
     /// The coordinated state of the mark of its epoch.

@@ -30,9 +30,10 @@ const MOST: u8 = 100;
 /// and the floor. It is the storage server of FoundationDB (Zhou et al., SIGMOD 2021, sections 2.3 to 2.5),
 /// with undo rows in its store in place of a window of versions in memory.
 ///
-/// A call of the store that is refused leaves the server failed: it keeps what it kept before, and each call
-/// but [`reopen`](Storage::reopen) is answered `Store(Failed)`. A [read](Storage::read) does so only if the
-/// device failed.
+/// A call of the store that is refused leaves the server failed: it keeps what it kept before, and each call but
+/// [`reopen`](Storage::reopen) is answered `Store(Failed)`. A [read](Storage::read) does so only if the device
+/// failed. Out of memory counts as well: it may come after some of the records were applied, and a server must be
+/// neither ahead of nor behind its store.
 #[derive(Drop)]
 pub struct Storage<S: ShardStore> {
     tag: Tag,
@@ -61,14 +62,14 @@ impl<S: ShardStore> Model for Storage<S> {
 }
 
 impl<S: ShardStore> Storage<S> {
-    /// The tag of its shard.
+    /// The tag that names its shard; it never changes.
     pub fn tag(&self) -> Tag
         ensures { result ≡ self.now.tag }
     {
         self.tag
     }
 
-    /// The coordinated state of its epoch.
+    /// The list of generations that ends with its own epoch, as its store spells it.
     pub fn state(&self) -> &CoordState
         ensures { result.now ≡ self.now.state }
     {
@@ -81,6 +82,7 @@ impl<S: ShardStore> Storage<S> {
         ensures version { result.1 ≡ self.now.applied }
         ensures sound { IsServer S.state S.is_failed S.MayLeave self.now }
     {
+        // The epoch goes along with the version (invariant 2).
         (self.state.last().epoch(), self.applied)
     }
 
@@ -112,6 +114,7 @@ impl<S: ShardStore> Storage<S> {
         let ask = LogAsk::Peek {
             epoch,
             tag: self.tag,
+            // From the position that is kept, without a call of the store: the two agree (invariant 1).
             after: self.applied,
             most,
         };
@@ -125,6 +128,8 @@ impl<S: ShardStore> Storage<S> {
         LogAsk::Pop {
             epoch,
             tag: self.tag,
+            // The floor and not the version applied: what is above may be undone, and would then be pulled again
+            // (invariant 6).
             through: self.floor,
         }
     }
@@ -133,8 +138,11 @@ impl<S: ShardStore> Storage<S> {
     fn next_source(&self) -> Epoch
         ensures { result ≡ (ask_after self.now.state.gens self.now.tag self.now.applied).0 }
     {
+        // A plain number, because the greatest version has no next one that is a `Version`. It is the version after
+        // the one applied that is asked for: the source of the applied one may have ended there (invariant 2).
         match self.state.source_for(self.applied.get() + 1) {
             Some(source) => source.epoch(),
+            // No generation of the list begins so low. The first one then answers TooEarly, which changes nothing.
             None => self.state.gens()[0].epoch(),
         }
     }
@@ -158,13 +166,14 @@ impl<S: ShardStore> Storage<S> {
         match self.store.dump(alloc) {
             Ok(rows) => Ok(rows),
             Err(fault) => {
+                // Any fault, as in the calls that write, so that there is one rule for all but `read` (invariant 7).
                 self.failed = true;
                 Err(StorageFault::Store(fault))
             }
         }
     }
 
-    /// Gives the store back.
+    /// As it stands, failed or not.
     pub fn into_store(self) -> S
         ensures { result ≡ self.store }
     {
@@ -173,7 +182,7 @@ impl<S: ShardStore> Storage<S> {
 }
 
 impl Storage<MapStore> {
-    /// An equal server.
+    /// Of a store in memory alone: a copy of a file would be a second owner of it.
     pub fn copy(&self, alloc: Global) -> Result<Self, Memory>
         ensures { IfOk result (λ copy. copy ≡ self.now) }
     {

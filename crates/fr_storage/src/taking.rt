@@ -40,13 +40,17 @@ pub fn take_peeked<S: ShardStore>(
     follow_law();
     position_law();
     spelling_law();
+    // Worked out before the hear: afterwards position and floor are those that the break left.
     let (applied, floor) = whole_peeked(storage, epoch, peeked);
     let heard = storage.hear_peeked(alloc, epoch, peeked);
     if !met_store(&heard) {
         return Ok(None);
     }
+    // Its position is known only once it is opened (invariant 7).
     storage.reopen(alloc)?;
     let (_, reached) = storage.position();
+    // The last call may have taken effect although it was answered with a fault. Then nothing is missing (invariant
+    // 8).
     if reached == applied && storage.floor() == floor {
         Ok(None)
     } else {
@@ -82,12 +86,15 @@ pub fn take_marked<S: ShardStore>(
     spelling_law();
     let _sound = storage.is_failed();
     let _within = state.gens();
+    // Copied first: the hear takes the state by value, and the comparison below needs it. `Memory` here leaves the
+    // server as it was.
     let given = state.copy()?;
     let heard = storage.hear_marked(alloc, given);
     if !met_store(&heard) {
         return Ok(None);
     }
     storage.reopen(alloc)?;
+    // The state is stored last, so if it is there the undo is done as well (invariant 5).
     if storage.state() == state {
         Ok(None)
     } else {
@@ -113,6 +120,7 @@ fn whole_peeked<S: ShardStore>(
         None => peeked.upto(),
     };
     let applied = before.max(target);
+    // As `forget_known` does it, for the version that the whole hear reaches (invariant 6).
     let floor = storage.floor().max(peeked.known().min(applied));
     (applied, floor)
 }

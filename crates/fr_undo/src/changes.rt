@@ -16,7 +16,7 @@ use fr_mutation::Batch;
 use std::alloc::Global;
 use std::collections::BTreeMap;
 
-/// What becomes of a key.
+/// A key's fate, from its old and its new value.
 #[derive(Debug, Drop)]
 pub struct Change {
     /// What it holds before: a value, or none.
@@ -37,6 +37,7 @@ pub(crate) fn changes_by(
 {
     let mut changes = BTreeMap::new(alloc);
     for (key, after) in plan {
+        // Looked up here, once for each key of the batch: the row is made from it (invariant 2).
         let before = value_copy(contents, &key)?;
         changes.insert(key, Change { before, after })?;
     }
@@ -50,6 +51,10 @@ pub(crate) fn changes_by(
 /// # Errors
 ///
 /// `Memory`: a growth of memory was refused.
+///
+/// Trees are read by look-up and range, without a trait of their own. A store in tables first reads the keys that the
+/// batch touches into a small tree, so that its own faults stay its own; [`untouched_law`](crate::untouched_law) says
+/// that these keys are enough.
 pub fn changes_of(
     alloc: Global,
     contents: &BTreeMap<Bytes, Bytes>,

@@ -17,7 +17,6 @@ use std::alloc::Global;
 use std::collections::{BTreeMap, VecDeque};
 use std::ops::Bound;
 
-/// A copy of a value, or none.
 pub(crate) fn copy_of(value: &Option<Bytes>) -> Result<Option<Bytes>, Memory>
     ensures { IfOk result (λ copy. copy ≡ value.now) }
 {
@@ -75,6 +74,7 @@ pub(crate) fn range_copy(
 {
     match &shard.end {
         None => between_copy(alloc, contents, &shard.begin, Bound::Unbounded),
+        // A tree refuses a range that ends before it begins, and a shard may be empty in that way.
         Some(end) if shard.begin <= *end => {
             between_copy(alloc, contents, &shard.begin, Bound::Excluded(end))
         }
@@ -96,7 +96,6 @@ pub(crate) fn entries_copy(
     Ok(entries)
 }
 
-/// A copy of all keys with their values.
 pub(crate) fn contents_copy(
     alloc: Global,
     contents: &BTreeMap<Bytes, Bytes>,
@@ -110,10 +109,10 @@ pub(crate) fn contents_copy(
     Ok(copy)
 }
 
-/// A copy of all undo rows.
 pub(crate) fn rows_copy(alloc: Global, rows: &VecDeque<Row>) -> Result<VecDeque<Row>, Memory>
     ensures { IfOk result (λ copy. copy.items ≡ rows.now.items) }
 {
+    // In their order (invariant 4), with room for exactly these, so that it grows once.
     let mut copy = VecDeque::with_capacity(alloc, rows.len())?;
     for row in rows.iter() {
         copy.push_back(((row.0.0, row.0.1.copy()?), copy_of(&row.1)?))?;

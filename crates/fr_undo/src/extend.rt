@@ -28,6 +28,8 @@ fn put_row(rows: &mut VecDeque<Row>, place: (Version, Bytes), before: Option<Opt
     ensures room { deque_capacity rows.new ≡ deque_capacity rows.old }
 {
     if let Some(before) = before {
+        // At the end: the version is above all rows, and the keys come in order (invariant 4). Room was reserved
+        // (invariant 6).
         rows.push_back_reserved((place, before));
     }
 }
@@ -47,12 +49,16 @@ fn settle(
     ensures rows { rows.new.items ≡ rows.old.items ++ rows_left version (tree.get bytes_cmp contents.old) fates.items }
 {
     for (key, fate) in fates {
+        // None where the value is the same as before: no row for such a key (invariant 2).
         let before = finish(contents, &key, fate);
         put_row(rows, (version, key), before);
     }
 }
 
 /// Applies a batch at a version above all rows: all of it, or nothing if memory runs out.
+///
+/// A batch is planned before it is written, and the steps that can fail come first. So a refused batch has no rows to
+/// take back.
 pub(crate) fn extend(
     alloc: Global,
     contents: &mut BTreeMap<Bytes, Bytes>,
@@ -72,10 +78,14 @@ pub(crate) fn extend(
     ensures same_values { OnErr result ((q : List ℕ) → tree.get bytes_cmp contents.new q ≡ tree.get bytes_cmp contents.old q) }
     ensures same_rows { OnErr result (rows.new.items ≡ rows.old.items) }
 {
+    // Values of all mutations are worked out before the first is written (invariant 6): a batch is one change.
     let plan = plan_of(alloc, contents, batch)?;
     let entries = plan.into_entries(alloc)?;
+    // Room for every key of the plan, though some may need no row: which ones is known only once values are given.
     rows.reserve(entries.len())?;
+    // The last step that can fail. It takes back what it gave (invariant 6).
     let fates = give_values(alloc, contents, entries)?;
+    // From here on nothing can fail: keys are removed, and rows put in reserved room.
     settle(contents, rows, version, fates);
     Ok(())
 }

@@ -12,13 +12,16 @@ use std::collections::{BTreeSet, VecDeque};
 /// Which keys have undo rows at which versions, by key and then by version. It lists the rows of versions
 /// through one, and of later ones perhaps some. It is made by need, so a store that is never read at a
 /// version has an empty one.
+///
+/// A row costs a logarithm of the rows, once; an undo or a forget takes its own rows off. To keep the set up to date
+/// in `apply` would cost each row a search and a copy of its key, for reads that may never come. The price is that
+/// the first read after many batches lists them all.
 #[derive(Drop)]
 pub(crate) struct RowIndex {
     places: BTreeSet<(Bytes, Version)>,
     through: Version,
 }
 
-/// Lists the place of a row.
 fn list(places: &mut BTreeSet<(Bytes, Version)>, row: &Row) -> Result<(), Memory>
     ensures ok { OnOk result ((q : List ℕ) (w : ℕ) → is_listed places.new q w
         ≡ cond (is_eq (by_key (row.now.0.1, row.now.0.0) (q, w))) true (is_listed places.old q w)) }
@@ -67,9 +70,11 @@ impl RowIndex {
         ensures through { self.new.through ≤ applied }
         ensures ok { OnOk result (self.new.through ≡ applied) }
     {
+        // Rows through `self.through` are listed already (invariant 5), so each row is listed once in its life.
         if self.through < applied {
             let first = count_through(rows, self.through);
             list_from(&mut self.places, rows, first)?;
+            // Set only once all are listed: out of memory some are, which is allowed above `through` (invariant 5).
             self.through = applied;
         }
         Ok(())
@@ -85,10 +90,12 @@ impl RowIndex {
         requires { version < applied }
         ensures { IfOk result (IsLeastAbove (is_listed self.now.places key.now) version) }
     {
+        // From the version after: the row at `version` itself holds what the key had before that version.
         let first = (key.copy()?, next(version, applied));
         let Some(place) = self.places.range(first..).next() else {
             return Ok(None);
         };
+        // The set goes on with the next key, so the first place found may be of another one.
         if place.0 != *key {
             return Ok(None);
         }
@@ -102,6 +109,8 @@ impl RowIndex {
             ≡ cond (is_eq (by_key (place.1, place.0) (q, w))) false (is_listed self.old.places q w) }
     {
         let (version, key) = place;
+        // Also of a version above `through`, since such rows may be listed: nothing may be listed that is no row
+        // (invariant 5).
         self.places.remove(&(key, version));
     }
 
@@ -110,6 +119,8 @@ impl RowIndex {
         ensures places { self.new.places ≡ self.old.places }
         ensures through { (self.new.through ≤ version) × (self.new.through ≤ self.old.through) }
     {
+        // Versions above may be numbered again by the next epoch, with other rows, so nothing is promised of them
+        // (invariant 5).
         self.through = self.through.min(version);
     }
 }

@@ -51,6 +51,7 @@ impl Plan {
         ensures next { (result ≡ Greater) → IsNext self.now key.now }
         ensures last { (result ≡ Equal) → IsSome (planned self.now key.now) }
     {
+        // Once one key came out of order all are in the tree (invariant 8): `Less` sends the caller there.
         if !self.tree.is_empty() {
             return Ordering::Less;
         }
@@ -60,7 +61,6 @@ impl Plan {
         }
     }
 
-    /// Adds a key that comes behind all others.
     fn push(&mut self, key: Bytes, after: Option<Bytes>) -> Result<(), Memory>
         requires plan { IsPlan self.old }
         requires next { IsNext self.old key }
@@ -72,7 +72,6 @@ impl Plan {
         Ok(())
     }
 
-    /// Moves all keys to the tree.
     fn to_tree(&mut self, alloc: Global) -> Result<(), Memory>
         requires { IsPlan self.old }
         ensures list { OnOk result (self.new.rising.items ≡ []) }
@@ -116,9 +115,12 @@ pub(crate) fn add(
 {
     match plan.order(key) {
         Ordering::Greater => plan.push(key.copy()?, copy_of(after)?),
+        // What is planned stays: the caller adds the oldest row of a key first, and a clear only what has no entry
+        // (invariants 3 and 8).
         Ordering::Equal => Ok(()),
         Ordering::Less => {
             plan.to_tree(alloc)?;
+            // One search finds the key and its place.
             if let Entry::Vacant(entry) = plan.tree.entry(key.copy()?)? {
                 entry.insert(copy_of(after)?);
             }
@@ -137,6 +139,7 @@ fn set(alloc: Global, plan: &mut Plan, key: Bytes, after: Option<Bytes>) -> Resu
         return plan.push(key, after);
     }
     plan.to_tree(alloc)?;
+    // The value before does not matter to a set, so it replaces what was planned (invariant 8).
     plan.tree.insert(key, after)?;
     Ok(())
 }
@@ -150,6 +153,7 @@ fn held_outside<'a>(
     ensures { option_copied result ≡ held_outside cleared.now (tree.get bytes_cmp contents.now) key.now }
 {
     match contents.get(key) {
+        // A cleared key holds nothing for the mutations behind the clear, though its value is still in the contents.
         Some(value) if !is_covered(cleared, key) => Some(value),
         _ => None,
     }
@@ -172,12 +176,15 @@ fn combine(
         ≡ value_after mutation.now q
         (value_planned plan.old (held_outside cleared.now (tree.get bytes_cmp contents.now)) q)) }
 {
+    // A new key behind all others is planned without a search. Batches are often in order.
     if plan.order(key).is_gt() {
         let held = held_outside(contents, cleared, key);
         return plan.push(key.copy()?, mutation.new_value(alloc, held)?);
     }
     plan.to_tree(alloc)?;
+    // One search finds key and place, at the price of a copy of the key.
     match plan.tree.entry(key.copy()?)? {
+        // It acts on what the mutations before it planned, and not on the contents (invariant 8).
         Entry::Occupied(mut entry) => {
             let after = entry.get_mut();
             *after = mutation.new_value(alloc, after.as_ref())?;
@@ -218,6 +225,7 @@ fn drop_between(alloc: Global, plan: &mut Plan, begin: &Bytes, end: &Bytes) -> R
         → planned plan.new q ≡ cond (is_between begin.now end.now q) None (planned plan.old q)) }
 {
     plan.to_tree(alloc)?;
+    // Listed first, because a tree cannot be changed while it is walked.
     let keys = keys_between(alloc, &plan.tree, begin, end)?;
     for key in keys.as_slice() {
         plan.tree.remove(key);
@@ -242,8 +250,12 @@ fn clear(
         ≡ value_after (Clear begin.now end.now) q
         (value_planned plan.old (held_outside cleared.items (tree.get bytes_cmp contents.now)) q)) }
 {
+    // A range that is empty clears nothing, and a tree could not be asked for it.
     if begin < end {
+        // Which keys the contents have in it is left for `clear_all`, once all ranges are merged: so no key is walked
+        // twice.
         let ranges = with_range(alloc, cleared, begin, end)?;
+        // What was set before is cleared; what is set later is planned anew, and wins over the range (invariant 8).
         drop_between(alloc, plan, begin, end)?;
         return Ok(ranges);
     }
@@ -271,6 +283,8 @@ fn act(
             return clear(alloc, contents, plan, cleared, begin, end);
         }
         Mutation::Set { key, value } => {
+            // The contents are not read: a set needs no value before it. The old one is found when the value is
+            // given.
             set(alloc, plan, key.copy()?, Some(value.copy()?))?;
         }
         Mutation::Atomic { key, .. } => {
@@ -296,6 +310,7 @@ fn clear_range(
 {
     if begin < end {
         for (key, _) in contents.range(begin..end) {
+            // `add` and not `set`: what is planned of the key came after the clear (invariant 8).
             add(alloc, plan, key, &None)?;
         }
     }
@@ -337,6 +352,7 @@ pub(crate) fn plan_of(
     for mutation in batch.mutations() {
         cleared = act(alloc, contents, &mut plan, cleared, mutation)?;
     }
+    // Last, when no later mutation can give a cleared key a value (invariant 8).
     clear_all(alloc, contents, &mut plan, cleared.as_slice())?;
     Ok(plan)
 }

@@ -8,11 +8,11 @@ ghost use Rattle.fr_undo.specs.Changes.{covers};
 use fr_base::{Bytes, Memory};
 use std::alloc::Global;
 
-/// Whether some range holds the key.
 pub(crate) fn is_covered(ranges: &[(Bytes, Bytes)], key: &Bytes) -> bool
     ensures { result ≡ covers ranges.now key.now }
 {
     for range in ranges {
+        // Walked one by one, since a batch has at most 1,000 clears, and merged they are fewer.
         if range.0 <= *key && *key < range.1 {
             return true;
         }
@@ -24,24 +24,22 @@ pub(crate) fn is_covered(ranges: &[(Bytes, Bytes)], key: &Bytes) -> bool
 fn meet(a: &(Bytes, Bytes), b: &(Bytes, Bytes)) -> bool
     ensures { result ≡ (is_le (bytes_cmp a.now.0 b.now.1) && is_le (bytes_cmp b.now.0 a.now.1)) }
 {
+    // `<=` on both sides: ranges that touch are one, since the end is not part of a range.
     a.0 <= b.1 && b.0 <= a.1
 }
 
-/// The lesser of two byte strings.
 fn lesser(a: Bytes, b: Bytes) -> Bytes
     ensures { result ≡ cond (is_le (bytes_cmp a b)) a b }
 {
     if a <= b { a } else { b }
 }
 
-/// The greater of two byte strings.
 fn greater(a: Bytes, b: Bytes) -> Bytes
     ensures { result ≡ cond (is_le (bytes_cmp a b)) b a }
 {
     if a <= b { b } else { a }
 }
 
-/// From the lesser begin to the greater end.
 fn hull(a: (Bytes, Bytes), b: (Bytes, Bytes)) -> (Bytes, Bytes)
     ensures begin { result.0 ≡ cond (is_le (bytes_cmp a.0 b.0)) a.0 b.0 }
     ensures end { result.1 ≡ cond (is_le (bytes_cmp a.1 b.1)) b.1 a.1 }
@@ -66,7 +64,8 @@ fn add(
     Ok(merged)
 }
 
-/// The ranges with one more, merged with those that it meets: ranges that did not meet do not meet then.
+/// The ranges with one more, merged with those that it meets: ranges that did not meet do not meet then. Otherwise
+/// clears over the same keys would cost the square of their number.
 pub(crate) fn with_range(
     alloc: Global,
     ranges: Vec<(Bytes, Bytes)>,
@@ -78,6 +77,7 @@ pub(crate) fn with_range(
     let mut merged = (begin.copy()?, end.copy()?);
     let mut apart = Vec::new(alloc);
     for range in ranges {
+        // The merged range grows, but meets none of those passed: they met neither of the parts that it is made of.
         merged = add(&mut apart, merged, range)?;
     }
     apart.push(merged)?;

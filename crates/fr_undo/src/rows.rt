@@ -31,6 +31,7 @@ pub(crate) fn count_through(rows: &VecDeque<Row>, version: Version) -> usize
     ensures front { take result rows.now.items ≡ rows_to rows.now.items version }
     ensures back { drop result rows.now.items ≡ rows_beyond rows.now.items version }
 {
+    // By halving, since the list is by version first (invariant 4).
     rows.partition_point(|row| row.0.0 <= version)
 }
 
@@ -39,12 +40,12 @@ fn give_back(rows: &mut VecDeque<Row>)
     ensures { rows.new.items ≡ rows.old.items }
 {
     let room = rows.capacity();
+    // A quarter and not a half, so that a store that grows and shrinks by turns does not move its rows each time.
     if rows.len() < room / 4 {
         rows.shrink_to(room / 2);
     }
 }
 
-/// Removes the last row, if there is one.
 fn drop_last(rows: &mut VecDeque<Row>, index: &mut RowIndex)
     requires order { IsInOrder rows.old.items }
     requires index { IsIndex index.old rows.old.items }
@@ -54,6 +55,7 @@ fn drop_last(rows: &mut VecDeque<Row>, index: &mut RowIndex)
     ensures through { index.new.through ≡ index.old.through }
 {
     if let Some((place, _)) = rows.pop_back() {
+        // In the same step, because the index may list only rows (invariant 5).
         index.strike(place);
     }
 }
@@ -72,7 +74,6 @@ pub(crate) fn keep_front(rows: &mut VecDeque<Row>, index: &mut RowIndex, count: 
     give_back(rows);
 }
 
-/// Removes the first row, if there is one.
 fn drop_first(rows: &mut VecDeque<Row>, index: &mut RowIndex)
     requires order { IsInOrder rows.old.items }
     requires index { IsIndex index.old rows.old.items }
@@ -100,7 +101,6 @@ fn drop_front(rows: &mut VecDeque<Row>, index: &mut RowIndex, count: usize)
     give_back(rows);
 }
 
-/// Removes the rows through a version.
 pub(crate) fn drop_through(rows: &mut VecDeque<Row>, index: &mut RowIndex, version: Version)
     requires order { IsInOrder rows.old.items }
     requires index { IsIndex index.old rows.old.items }
@@ -112,12 +112,12 @@ pub(crate) fn drop_through(rows: &mut VecDeque<Row>, index: &mut RowIndex, versi
     drop_front(rows, index, count);
 }
 
-/// Whether a row is before a place.
 fn is_before(row: &Row, version: Version, key: &Bytes) -> bool
     ensures { result ≡ is_lt (place_cmp row.now.0 (version, key.now)) }
 {
     match row.0.0.cmp(&version) {
         Ordering::Less => true,
+        // By version and then by key, as the rows are sorted (invariant 4).
         Ordering::Equal => row.0.1 < *key,
         Ordering::Greater => false,
     }
@@ -142,6 +142,7 @@ pub(crate) fn held_before(
     requires row { IsSome (row_in rows.now.items (version, key.now)) }
     ensures { IfOk result (λ before. row_in rows.now.items (version, key.now) ≡ Some before) }
 {
+    // The first row that is not before the place is the row itself, since it is there (invariant 4).
     let first = count_before(rows, version, key);
     match rows.range(first..).next() {
         Some(row) => copy_of(&row.1),
@@ -156,6 +157,7 @@ pub(crate) fn next(version: Version, later: Version) -> Version
 {
     let bound = later.get();
     let number = version.get();
+    // Below another version, so below the limit as well.
     prove!(number < bound);
     match Version::new(number + 1) {
         Some(next) => next,
@@ -184,6 +186,8 @@ pub fn changes_above(
 {
     let mut plan = Plan::new(alloc);
     let first = (next(version, applied), Bytes::empty(alloc));
+    // From the lowest version up: `add` keeps the first row of a key, which is the one of least version (invariant
+    // 3).
     for ((_, key), before) in rows.range(first..) {
         add(alloc, &mut plan, key, before)?;
     }

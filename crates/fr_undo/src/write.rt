@@ -36,11 +36,14 @@ fn give_one(
         (tree.get bytes_cmp contents.old q)) }
     ensures err { OnErr result ((q : List ℕ) → tree.get bytes_cmp contents.new q ≡ tree.get bytes_cmp contents.old q) }
 {
+    // Left in the tree for now: to put it back could need memory, which a refused batch might not get (invariant 6).
     let Some(value) = after else {
         return Ok(Fate::Leaves);
     };
+    // One search finds key and place, at the price of a copy of the key.
     match contents.entry(key.copy()?)? {
         Entry::Occupied(mut entry) => {
+            // The same value again makes no row (invariant 2).
             if *entry.get() == value {
                 return Ok(Fate::Stays);
             }
@@ -73,6 +76,7 @@ fn give_all(
 {
     for (key, after) in plan {
         let fate = give_one(contents, &key, after)?;
+        // Noted at once, so that what was given so far can be taken back.
         fates.push_reserved((key, fate));
     }
     Ok(())
@@ -86,10 +90,12 @@ fn take_back_one(contents: &mut BTreeMap<Bytes, Bytes>, key: &Bytes, fate: Fate)
 {
     match fate {
         Fate::Stays | Fate::Leaves => {}
+        // It had no value before. To remove a key takes no memory (invariant 6).
         Fate::Took(None) => {
             contents.remove(key);
         }
         Fate::Took(Some(value)) => {
+            // In its place, so that nothing has to grow.
             if let Some(place) = contents.get_mut(key) {
                 *place = value;
             }
@@ -124,10 +130,12 @@ pub(crate) fn give_values(
     ensures order { IfOk result (λ fates. IsStrictlySortedBy bytes_cmp (keys_of fates.items)) }
     ensures err { OnErr result ((q : List ℕ) → tree.get bytes_cmp contents.new q ≡ tree.get bytes_cmp contents.old q) }
 {
+    // Room for all fates first: a fate that could not be noted could not be taken back.
     let mut fates = Vec::with_capacity(alloc, plan.len())?;
     match give_all(contents, plan, &mut fates) {
         Ok(()) => Ok(fates),
         Err(refused) => {
+            // It can fail nowhere, so a refused batch leaves the contents as they were (invariant 6).
             take_back(contents, fates);
             Err(refused)
         }
@@ -148,6 +156,7 @@ pub(crate) fn finish(
     match fate {
         Fate::Stays => None,
         Fate::Took(before) => Some(before),
+        // A key that had no value needs no row, though it was cleared (invariant 2).
         Fate::Leaves => match contents.remove(key) {
             Some(value) => Some(Some(value)),
             None => None,

@@ -19,6 +19,9 @@ use std::marker::Model;
 ///
 /// A turn that is not entered yet is found too, by a walk from the newest one on. What an event needs is mostly in one
 /// of the last turns, so the others are entered once it is not.
+///
+/// Turns are found by three numbers: of the request or reply, and of the two nodes. No proof rests on these keys
+/// being different for different requests. Without memory to enter turns they are found by looking at them.
 #[derive(Drop)]
 pub struct Turns {
     turns: Vec<Turn>,

@@ -44,10 +44,13 @@ impl Standing {
         let Some(draft) = &self.plan else {
             return Ok(Vec::new(alloc));
         };
+        // Once complete, the copy stays as it is, since logs may be seeded from it already (invariant 5).
         if epoch != found.last.epoch() || draft.tail.complete() {
             return Ok(Vec::new(alloc));
         }
         if completes(&draft.tail, index, &peeked) {
+            // The last answer is heard by a second tail: the seeds are made from the whole tail, and to make them can
+            // fail (invariant 11).
             let mut tail = draft.tail.copy(alloc)?;
             take(&mut tail, index, peeked)?;
             let asks = seeds(
@@ -57,22 +60,24 @@ impl Standing {
                 &tail,
                 self.seeded.as_slice(),
             )?;
+            // Nothing can fail from here on (invariant 11).
             self.copy_with(tail);
             Ok(asks)
         } else {
+            // Made before the copy moves on, for the same reason.
             let asks = going_asks(alloc, epoch, &draft.tail, index, &peeked)?;
             self.go_on(index, peeked)?;
             Ok(asks)
         }
     }
 
-    /// Its copy goes on by an answer.
     fn go_on(&mut self, index: u8, peeked: Peeked) -> Result<(), Memory>
         ensures ok { OnOk result ((draft : Draft) → self.old.plan ≡ Some draft
             → state_of self.new ≡ with_tail (state_of self.old) (plan_in draft) index peeked) }
         ensures err { OnErr result (state_of self.new ≡ state_of self.old) }
     {
         if let Some(mut draft) = self.plan.take() {
+            // The plan is put back before the result is looked at: an early return would lose it.
             let taken = take(&mut draft.tail, index, peeked);
             self.plan = Some(draft);
             taken
@@ -81,7 +86,6 @@ impl Standing {
         }
     }
 
-    /// Its copy is this one from now on.
     fn copy_with(&mut self, tail: Tail)
         ensures { (draft : Draft) → self.old.plan ≡ Some draft → self.new ≡ record self.old { plan = Some (record draft { tail = tail }) } }
     {
@@ -107,8 +111,11 @@ impl Standing {
             return Ok(Vec::new(alloc));
         }
         if self.is_last_seeded() {
+            // Made while the phase is still Copying: if memory runs out here or at `push`, this Seeded is simply
+            // heard again (invariant 11).
             let asks = self.writes_left(alloc)?;
             self.seeded.push(index)?;
+            // Invariant 6: with this log all are seeded.
             self.stage = Stage::Writing;
             Ok(asks)
         } else {
@@ -124,7 +131,10 @@ impl Standing {
         let Some(draft) = &self.plan else {
             return false;
         };
+        // The sender's epoch is compared, because a Seeded names none, and logs of other epochs send it as well.
         let is_own = epoch == self.epoch && index < draft.generation.m();
+        // A Seeded before the copy is complete answers no seed of this recoverer. A repeated one must not count twice
+        // (invariant 6).
         is_own && draft.tail.complete() && !self.seeded.contains(&index)
     }
 
@@ -133,6 +143,7 @@ impl Standing {
         ensures { result ≡ seeds_last (state_of self.now) (state_of self.now).plan }
     {
         match &self.plan {
+            // All m logs and not k of them: a commit needs each of them from the first version on (invariant 6).
             Some(draft) => usize::from(draft.generation.m()) <= self.seeded.len() + 1,
             None => false,
         }
@@ -148,6 +159,7 @@ fn take(tail: &mut Tail, index: u8, peeked: Peeked) -> Result<(), Memory>
     match tail.hear(index, tag, peeked) {
         Ok(()) => Ok(()),
         Err(TailFault::Memory) => Err(Memory),
+        // What the copy refuses is dropped as if it had not come: another holder, or a repeat, may still answer.
         Err(TailFault::NotResponder) => Ok(()),
         Err(TailFault::Hole) => Ok(()),
         Err(TailFault::ShortOfEnd) => Ok(()),

@@ -47,12 +47,14 @@ impl Standing {
         let Some(end) = self.replied(epoch, index, durable, known) else {
             return Ok(Vec::new(alloc));
         };
+        // Before the tally is replaced, because only a first reply of its log shows something.
         let shown = self.shown_with(index, &popped)?;
         if !end.is_covered() {
             self.end = Some(end);
             self.shown = shown;
             return Ok(Vec::new(alloc));
         }
+        // Plan and requests come first, and each can fail. What follows cannot (invariant 11).
         let drafted = self.draft(alloc, &end, &shown)?;
         let tags = self.tags();
         let asks = draft_asks(
@@ -65,6 +67,8 @@ impl Standing {
         )?;
         self.end = Some(end);
         self.shown = shown;
+        // The phase changes last: the replies that led here are in place, and from now on no other can change them
+        // (invariant 2).
         self.plan_on(drafted);
         Ok(asks)
     }
@@ -75,6 +79,8 @@ impl Standing {
     {
         let mut shown = self.shown.clone()?;
         if let Some(end) = &self.end {
+            // The tally and what was shown are of the same replies. A later Locked of a log may show more, but is
+            // dropped.
             if end.counts(index) {
                 shown.extend_from_slice(popped.as_slice())?;
             }
@@ -89,6 +95,8 @@ impl Standing {
         match &self.parent {
             Some(found) => match &self.end {
                 Some(end) => {
+                    // Only the generation that is to be ended counts (invariant 9): logs of an older one may be
+                    // locked as well.
                     if epoch == found.last.epoch() {
                         Some(replied(end, index, durable, known))
                     } else {
@@ -129,7 +137,6 @@ impl Standing {
         }
     }
 
-    /// It has its plan, or it is lost.
     fn plan_on(&mut self, drafted: Result<Draft, LostWhy>)
         ensures { state_of self.new ≡ with_draft (state_of self.old) (plan_result drafted) }
     {
@@ -139,12 +146,13 @@ impl Standing {
                 self.plan = Some(draft);
             }
             Err(why) => {
+                // Only the phase: the replies stay (invariant 12).
                 self.stage = Stage::Lost { why };
             }
         }
     }
 
-    /// How many tags there are.
+    /// Tags, one for each shard, from 1 to 32.
     pub(crate) fn tags(&self) -> u8
         ensures value { result ≡ length self.now.map }
         ensures few { result ≤ MAX_SHARDS }
@@ -153,11 +161,11 @@ impl Standing {
     }
 }
 
-/// The replies with one more.
 fn replied(end: &EndTally, index: u8, durable: Version, known: Version) -> EndTally
     ensures { result ≡ replied end.now index durable known }
 {
     let mut end = end.copy();
+    // A stranger, or a reply that differs, leaves the tally as it was, so dropping the fault drops the reply.
     let _ = end.hear(index, durable, known);
     end
 }

@@ -38,6 +38,8 @@ impl Standing {
         ensures err { OnErr result (state_of self.new ≡ state_of self.old) }
     {
         let why = why_of(&tell);
+        // A copy hears first, because at a majority the parent has to be read and its locks made, which can fail
+        // (invariant 11).
         let mut reads = self.reads.copy()?;
         let progress = reads.hear(index, tell)?;
         match progress {
@@ -47,10 +49,13 @@ impl Standing {
             }
             Progress::Lost { .. } => {
                 self.reads = reads;
+                // Invariant 12: the tally is kept, and the phase alone says that it gave up.
                 self.stage = Stage::Lost { why };
                 Ok(Vec::new(alloc))
             }
             Progress::Majority => {
+                // The value with the greatest written ballot, and not that of the last promise: a chosen state is in
+                // every majority, but perhaps in one cell of it (invariant 7).
                 let found = parent_in(alloc, reads.greatest().1)?;
                 let asks = first_locks(alloc, &found)?;
                 self.reads = reads;
@@ -68,6 +73,7 @@ impl Standing {
         match found {
             Some(found) => {
                 self.stage = Stage::Locking;
+                // Of the parent's shape, since its logs are the ones that reply (invariant 9).
                 self.end = Some(EndTally::new(found.last.m(), found.last.k()));
                 self.parent = Some(found);
             }
@@ -106,6 +112,8 @@ impl Standing {
                 Ok(Vec::new(alloc))
             }
             Progress::Majority => {
+                // Made while the phase is Writing, from the plan, and sent only with the phase Chosen (invariants 8
+                // and 11).
                 let asks = self.marks_left(alloc)?;
                 self.writes = writes;
                 self.stage = Stage::Chosen;
@@ -128,6 +136,7 @@ impl Standing {
         ensures state { OnOk result (state_of self.new ≡ after_hear (state_of self.old) (NodeId.Log epoch index) (Tell.Log (LogTell.Held version))) }
         ensures err { OnErr result (state_of self.new ≡ state_of self.old) }
     {
+        // No new requests: `pending` leaves out the logs that are marked, and the epoch is open already.
         if self.is_newly_marked(epoch, index, version) {
             self.marked.push(index)?;
         }
@@ -142,6 +151,7 @@ impl Standing {
             return false;
         };
         let is_own = epoch == self.epoch && index < draft.generation.m();
+        // A Held of a later version answers a proxy's push. It does not say that this recoverer need not push again.
         let is_mark = version.get() == draft.generation.seeded_to().get() + 1;
         is_own && is_mark && !self.marked.contains(&index)
     }

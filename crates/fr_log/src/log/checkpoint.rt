@@ -36,6 +36,7 @@ impl Log {
         ensures sound { IsLog self.now }
     {
         Ok(Checkpoint {
+            // A number is enough, since a push that is held never changes until `settle` (invariant 8).
             pushes: self.pushes.len(),
             durable: self.durable,
             known: self.known,
@@ -51,11 +52,14 @@ impl Log {
         requires { (l : LogState) × IsLog l × (place ≡ checkpoint_of l) × Extends l self.old }
         ensures { (l : LogState) → place ≡ checkpoint_of l → Extends l self.old → self.new ≡ l }
     {
+        // Invariant 1: pushes only come behind others, so those held at the checkpoint are the first of today's.
         self.pushes.truncate(place.pushes);
+        // A log never takes a second seed. So a seed that stood at the checkpoint is still this one.
         if !place.seeded {
             self.seed = None;
         }
         self.stopped = place.stopped;
+        // Invariant 10. The numbers are part of the checkpoint, so that going back costs no walk over the pushes.
         self.durable = place.durable;
         self.known = place.known;
         self.popped = place.popped;

@@ -16,9 +16,13 @@ impl Log {
         if seed.epoch() != self.id.epoch {
             return Some(LogRefusal::WrongEpoch);
         }
+        // Tested before SeedDiffers, because it depends on the request alone: the answer is the same before and after
+        // the log has its seed.
         if !self.holds_seeded(seed.records()) {
             return Some(LogRefusal::NotMine);
         }
+        // An equal seed is not refused, since a recoverer repeats it until it hears Seeded. Popped records do not
+        // count, because the held seed may have freed them (invariant 7).
         match &self.seed {
             Some(held) if !held.is_left_as(seed, self.popped.as_slice()) => Some(
                 LogRefusal::SeedDiffers,
@@ -36,6 +40,8 @@ impl Log {
         if self.seed.is_none() {
             return Some(LogRefusal::Unseeded);
         }
+        // Before Stopped: a proxy whose Held was lost repeats the push, and a lock in between must not hide that it
+        // is held. The repeat raises nothing (invariant 4).
         if self.is_push_held(push) {
             return None;
         }
@@ -48,17 +54,24 @@ impl Log {
     {
         let is_mark = push.marked().is_some();
         let seeded_to = self.seeded_to();
+        // Invariant 5. It comes before Stale and Gap, because a proxy ends at Stopped alone: at the others it would
+        // repeat the push for ever.
         if self.stopped {
             Some(LogRefusal::Stopped)
         } else if push.prev() < self.durable || is_mark && push.prev() != seeded_to {
+            // Invariant 1. `prev < durable` and not `<=`, since the next push of the chain has `prev == durable`. A
+            // mark anywhere but at once behind the seed is stale as well (invariant 2).
             Some(LogRefusal::Stale)
         } else if push.prev() > self.durable {
+            // Taking it would leave a hole below `durable` (invariant 1). The push may be repeated once those before
+            // it are held.
             Some(LogRefusal::Gap {
                 durable: self.durable,
             })
         } else if !self.holds_pushed(push.bodies()) {
             Some(LogRefusal::NotMine)
         } else if !is_mark && self.durable == seeded_to {
+            // Invariant 2: versions rise above `seeded_to`, so `durable` is `seeded_to` only before the first push.
             Some(LogRefusal::NoMark)
         } else {
             None
@@ -72,6 +85,7 @@ impl Log {
         if epoch != self.id.epoch {
             Some(LogRefusal::WrongEpoch)
         } else if self.seed.is_none() {
+            // Its `durable` would be 0, and a recovery that counted it would take over nothing.
             Some(LogRefusal::Unseeded)
         } else {
             None
@@ -89,9 +103,13 @@ impl Log {
         } else if !self.holds(tag) {
             Some(LogRefusal::NotMine)
         } else if after.get() < first.get().saturating_sub(1) {
+            // Versions below `first` are on the logs of the generation before. `first - 1` is allowed, because a peek
+            // asks for what is above it. TooEarly comes before Removed, since it tells the caller that another source
+            // has the records.
             Some(LogRefusal::TooEarly { first })
         } else {
             let through = popped_at(self.popped.as_slice(), tag);
+            // `<` and not `<=`: the record at `through` was freed, and a peek after `through` does not ask for it.
             if after < through {
                 Some(LogRefusal::Removed { through })
             } else {
@@ -122,6 +140,7 @@ impl Log {
         } else if self.seed.is_none() {
             Some(LogRefusal::Unseeded)
         } else if self.mark().is_none() {
+            // The log learns the state of its epoch from the mark alone (invariant 2).
             Some(LogRefusal::NoMark)
         } else {
             None

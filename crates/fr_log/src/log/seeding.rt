@@ -18,8 +18,10 @@ impl Log {
     {
         match ask {
             LogAsk::Seed(seed) => self.seed_refusal(seed).is_none() && self.seed.is_none(),
+            // A held push is granted and changes nothing (invariant 4), so a file must get no second record of it.
             LogAsk::Push(push) => self.push_refusal(push).is_none() && !self.is_push_held(push),
             LogAsk::Lock { epoch } => self.lock_refusal(*epoch).is_none() && !self.stopped,
+            // Peek and MarkAsked are read only. A Pop that does not come further is too, so it is not written.
             _ => self.lets_go(ask),
         }
     }
@@ -33,6 +35,8 @@ impl Log {
         ensures after { IfOk result (λ _. self.new ≡ next_seeded self.old next) }
         ensures err { OnErr result (self.new ≡ self.old) }
     {
+        // The records of a seed are written before anything else of the log. One that stands later was written by no
+        // request, so the file is broken.
         if !self.is_seeding(next.tag) {
             return Ok(false);
         }
@@ -61,6 +65,7 @@ impl Log {
     fn may_pop(&self, tag: Tag, version: Version) -> bool
         ensures { result ≡ may_pop self.now tag version }
     {
+        // `version <= known` is invariant 6: a record of a Pop past it comes from no log.
         self.seed.is_some()
             && self.holds(tag)
             && version <= self.known
@@ -84,6 +89,8 @@ fn is_further(popped: Option<Version>, version: Version) -> bool
 {
     match popped {
         Some(popped) => popped < version,
+        // A first Pop through 0 changes something: a recovery counts a tag only if it was shown popped, be it through
+        // 0.
         None => true,
     }
 }

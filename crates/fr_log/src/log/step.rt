@@ -26,7 +26,9 @@ impl Log {
             return LogTell::Refused { why };
         }
         if self.seed.is_none() {
+            // Invariant 10: both numbers are read off before the seed is moved in.
             self.durable = seed.seeded_to();
+            // `first` is the `pev + 1` of the recovery, so all before it is known to be committed (invariant 3).
             self.known = seed.first().before().unwrap_or(Version::ZERO);
             self.seed = Some(seed);
         }
@@ -55,6 +57,8 @@ impl Log {
         ensures free { IsTrue (is_push_held self.old push) → IsOk result }
     {
         let version = push.version();
+        // Neither refused nor new: a new push has `prev == durable`, and its version is above that (invariant 1). So
+        // it is held, and raises nothing (invariant 4).
         if version <= self.durable {
             return Ok(LogTell::Held { version });
         }
@@ -62,7 +66,6 @@ impl Log {
         Ok(LogTell::Held { version })
     }
 
-    /// Holds one more push.
     fn hold(&mut self, alloc: Global, push: Push) -> Result<(), Memory>
         requires taken { push_refusal self.old push ≡ None }
         requires other { is_push_held self.old push ≡ false }
@@ -71,6 +74,7 @@ impl Log {
     {
         let version = push.version();
         let known = later(self.known, push.known());
+        // The only step that can fail comes first. Out of memory leaves push and numbers as they were (invariant 10).
         self.pushes.hold(alloc, push)?;
         self.durable = version;
         self.known = known;
@@ -84,9 +88,12 @@ impl Log {
         ensures err { OnErr result (self.new ≡ self.old) }
         ensures free { IsAnsweredInPlace self.old (LogAsk.Lock epoch) → IsOk result }
     {
+        // Tested before anything is copied, so that a refusal takes no memory (invariant 9).
         if let Some(why) = self.lock_refusal(epoch) {
             return Ok(LogTell::Refused { why });
         }
+        // Copied before the log is stopped: otherwise running out of memory would stop a log whose lock nobody was
+        // told of.
         let popped = self.popped.clone()?;
         self.stopped = true;
         Ok(LogTell::Locked {
@@ -107,6 +114,7 @@ impl Log {
             return Ok(LogTell::Refused { why });
         }
         let through = self.popped_to(tag, through);
+        // Compared as options, because a first Pop through 0 is a change: from never popped to popped through 0.
         if popped_of(self.popped.as_slice(), tag) != Some(through) {
             self.raise(tag, through)?;
         }
@@ -129,11 +137,13 @@ impl Log {
     pub fn popped_to(&self, tag: Tag, through: Version) -> Version
         ensures { result ≡ popped_to self.now tag through }
     {
+        // Invariant 6: a Pop goes no further than what is known to be committed.
         let known = if through < self.known {
             through
         } else {
             self.known
         };
+        // A Pop that arrives late has a lower version. `popped` must not fall, since the batches are gone.
         later(popped_at(self.popped.as_slice(), tag), known)
     }
 
@@ -207,6 +217,7 @@ impl Log {
         let records = seeded_above(self.seed_records(), after);
         let limit = usize::from(most.get());
         let (given, more) = gather(alloc, records, &self.pushes, tag, after, limit)?;
+        // `durable` and not the version of the last record, because an idle tag has none: see `upto`.
         let upto = upto(&given, more, self.durable);
         Ok(Peeked::from_ordered(tag, after, given, upto, self.known))
     }
@@ -222,12 +233,12 @@ impl Log {
             Some(state) => Ok(LogTell::Marked {
                 state: state.copy()?,
             }),
+            // `mark_refusal` saw a mark.
             None => unreachable!(),
         }
     }
 }
 
-/// The greater of two versions.
 fn later(a: Version, b: Version) -> Version
     ensures { result ≡ max a b }
 {
@@ -262,8 +273,10 @@ impl Machine for Log {
     ghost never_back = { λ l a h. (repeats_after l a).high };
 
     fn step(&mut self, alloc: Global, ask: LogAsk) -> Result<LogTell, Memory> {
+        // Asked before `keep`, which moves the request away and pops the tag: after that no Pop comes further.
         let goes = self.lets_go(&ask);
         let tell = self.keep(alloc, ask)?;
+        // Freed last, since `keep` could fail and what is freed cannot be brought back (invariant 8).
         if goes {
             self.settle();
         }

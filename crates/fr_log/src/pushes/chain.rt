@@ -15,6 +15,9 @@ use std::marker::Model;
 
 /// Headers by rising versions, held as runs that go evenly: a push that follows the last one as that followed
 /// the one before it takes no memory here. Contracts see the list of the headers.
+///
+/// A log keeps the header of every push for good (invariant 7). At 64 bytes a header, 1,000,000 batches would take 70
+/// MiB.
 #[derive(Debug, Drop)]
 pub(crate) struct Headers {
     runs: Vec<Run>,
@@ -44,7 +47,6 @@ impl Headers {
         }
     }
 
-    /// How many there are.
     pub(crate) fn len(&self) -> usize
         ensures { result ≡ length self.now }
     {
@@ -68,6 +70,8 @@ impl Headers {
         ensures { result ≡ list_any (is_headed push.now) self.now }
     {
         let version = push.version();
+        // Versions rise (invariant 1). So the one run that can hold the header is the last that begins at or below
+        // its version.
         let after = self.runs.partition_point(|run| run.version() <= version);
         if after == 0 {
             return false;
@@ -81,6 +85,8 @@ impl Headers {
         ensures after { OnOk result (self.new ≡ self.old ++ header ∷ []) }
         ensures err { OnErr result (self.new ≡ self.old) }
     {
+        // Each push has a version of its own, so there are no more pushes than versions, and the count cannot
+        // overflow.
         let len = one_more(self.len, header.version);
         if !add_to_last(&mut self.runs, &header) {
             self.runs.push(Run::new(header))?;
@@ -137,6 +143,8 @@ fn add_to_last(runs: &mut Vec<Run>, header: &PushHeader) -> bool
     ensures runs { AreRuns runs.new.items }
 {
     let count = runs.len();
+    // The mark comes here (invariant 2): it must begin a run, because a run keeps one mark at most, its first
+    // header's.
     if count == 0 {
         return false;
     }
@@ -174,6 +182,7 @@ fn cut_last(runs: &mut Vec<Run>, len: usize, left: usize) -> (usize, Version)
     let before = len - runs[last].len();
     let kept = left.saturating_sub(before);
     let from = runs[last].version_at(kept);
+    // A run has one header at least, so one that would be empty goes.
     if kept == 0 {
         runs.truncate(last);
     } else {

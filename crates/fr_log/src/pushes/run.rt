@@ -46,14 +46,13 @@ impl Run {
         }
     }
 
-    /// How many there are.
     pub(crate) fn len(&self) -> usize
         ensures { result ≡ length self.now }
     {
         self.more + 1
     }
 
-    /// The version of the first one.
+    /// The version of its first header, by which a run is sought.
     pub(crate) fn version(&self) -> Version
         ensures { result ≡ begins self.now }
     {
@@ -73,10 +72,12 @@ impl Run {
     {
         let version = push.version().get();
         let first = self.first.version.get();
+        // Only the first header is stored whole: it may be a mark. The others are worked out from it.
         if version <= first {
             return push.is_headed(&self.first);
         }
         let past = version - first;
+        // Between two headers of a run there is none, since each follows the last by exactly one step.
         if past % self.step != 0 {
             return false;
         }
@@ -86,13 +87,14 @@ impl Run {
         follows(push, self.first.epoch, version - self.step)
     }
 
-    /// The version of the one at a place.
+    /// The version of the header at a place, the first at 0.
     pub(crate) fn version_at(&self, place: usize) -> Version
         requires { place < length self.now }
         ensures { Some result ≡ version_at self.now place }
     {
         match Version::new(self.first.version.get() + place as u64 * self.step) {
             Some(version) => version,
+            // Its header was held, so its version is within the limit.
             None => unreachable!(),
         }
     }
@@ -113,6 +115,8 @@ impl Run {
         if header.version.get() != last + step {
             return false;
         }
+        // `known` has to rise by the step too, because a run does not store it for each header. With one proxy it
+        // does: each push reports the commit before it.
         if is_numbered(header, self.first.epoch, last, known + step) {
             self.step = step;
             self.more += 1;

@@ -37,14 +37,13 @@ impl Shelf {
         }
     }
 
-    /// The batch at a version.
     pub(crate) fn at(&self, version: Version) -> Option<&Batch>
         ensures { option_copied result ≡ batch_at version self.now }
     {
         self.batches.get(&version)
     }
 
-    /// Puts a batch behind the others.
+    /// Puts a batch behind the others, whose versions are lower.
     pub(crate) fn put(&mut self, version: Version, batch: Batch) -> Result<(), Memory>
         requires { AreBelow version self.old }
         ensures after { OnOk result (self.new ≡ self.old ++ (version, batch) ∷ []) }
@@ -67,6 +66,7 @@ impl Shelf {
     pub(crate) fn cut_through(&mut self, version: Version)
         ensures { self.new ≡ above version self.old }
     {
+        // From the front while something goes, so that a sweep costs what it frees and not what stays.
         while self.starts_by(version) {
             self.batches.pop_first();
         }
@@ -79,6 +79,7 @@ impl Shelf {
         ensures no { result ≡ false → AreAbove version self.now }
     {
         match self.batches.first_key_value() {
+            // `<=`: a Pop through a version covers the record at it.
             Some((first, _)) => *first <= version,
             None => false,
         }
@@ -111,6 +112,7 @@ impl Shelf {
             .batches
             .range((Bound::Excluded(&after), Bound::Unbounded))
         {
+            // Tested only when there is a further record: a full list alone does not mean that more remain.
             if given.len() == most {
                 return Ok(true);
             }

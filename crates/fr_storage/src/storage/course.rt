@@ -62,6 +62,8 @@ impl<S: ShardStore> Storage<S> {
         ensures stands { StaysStanding S.state S.MayLeave (heard_of answer ∷ []) self.old self.new (refusal_of result) }
     {
         let heard = self.hear(alloc, answer);
+        // Opened at once, since the position is unknown until then (invariant 7). The fault of the hear is handed on
+        // all the same.
         if self.failed {
             self.reopen(alloc)?;
         }
@@ -95,15 +97,20 @@ impl<S: ShardStore> Storage<S> {
         for answer in answers {
             match self.follow(alloc, answer) {
                 Ok(()) => {}
+                // These three come of messages that were late or early, and change nothing (invariant 9).
                 Err(StorageFault::Older) => {}
                 Err(StorageFault::NotMyGeneration) => {}
                 Err(StorageFault::Hole) => {}
                 Err(StorageFault::Store(fault)) => {
+                    // `follow` opens it again, so it is failed only if that was refused. No later answer could be
+                    // heard.
                     if self.failed {
                         return Err(StorageFault::Store(fault));
                     }
                     met = Some(fault);
                 }
+                // No answer that is true to the server is refused so (`storage_law`): going on would hide a broken
+                // premise.
                 Err(StorageFault::Stranger) => return Err(StorageFault::Stranger),
                 Err(StorageFault::BelowFloor) => return Err(StorageFault::BelowFloor),
                 Err(StorageFault::BadState) => return Err(StorageFault::BadState),

@@ -38,19 +38,25 @@ impl<S: ShardStore> Storage<S> {
             (marked_calls (storage_of S.state self.old) state) }
         ensures still { IsTrue self.old.failed → self.new ≡ self.old }
     {
+        // Before every other test: what the server keeps may be older than its store (invariant 7).
         if self.failed {
             return Err(StorageFault::Store(StoreFault::Failed));
         }
         if let Some(refusal) = self.marked_refusal(&state) {
             return Err(refusal);
         }
+        // A repeated mark stops here: the own state does not say where its own epoch is cut, so there is nothing to
+        // undo to.
         if self.keeps(&state) {
             return Ok(());
         }
         let cut = self.cut_in(&state);
+        // The kept fields change only after the store did, so that a refusal leaves them as they were (invariant 7).
         match move_to(alloc, &mut self.store, cut, &state) {
             Ok(()) => {
                 self.state = state;
+                // The smaller, because a server that was behind the cut has nothing to undo and stays where it is
+                // (invariant 4).
                 self.applied = self.applied.min(cut);
                 Ok(())
             }
@@ -67,15 +73,19 @@ impl<S: ShardStore> Storage<S> {
         ensures { result ≡ marked_fault (storage_of S.state self.now) state.now }
     {
         let own = self.state.last().epoch();
+        // First, since most refused states are late marks: of them nothing else need be known.
         if state.last().epoch() < own {
             return Some(StorageFault::Older);
         }
+        // Before `is_stranger`, which would refuse every state of the own epoch.
         if self.keeps(state) {
             return None;
         }
         if self.is_stranger(state) {
             return Some(StorageFault::Stranger);
         }
+        // `<` and not `<=`: the rows above the floor are there, so undoing to the floor itself is possible (invariant
+        // 6).
         if self.cut_in(state) < self.floor {
             return Some(StorageFault::BelowFloor);
         }
@@ -87,6 +97,8 @@ impl<S: ShardStore> Storage<S> {
     fn is_stranger(&self, state: &CoordState) -> bool
         ensures { result ≡ is_stranger self.now.state state.now }
     {
+        // Another state of the own epoch would be a second history under one ballot. A later one has to begin with
+        // the server's generations, because it has to say where the server's own epoch is cut.
         state.last().epoch() == self.state.last().epoch() || !state.begins_with(&self.state)
     }
 
@@ -95,6 +107,7 @@ impl<S: ShardStore> Storage<S> {
         ensures value { result ≡ is_same_state state.now self.now.state }
         ensures same { IsTrue result → state.now ≡ self.now.state }
     {
+        // Compared whole: two states may have the same epochs and other cuts.
         equal_law();
         *state == self.state
     }
@@ -103,7 +116,9 @@ impl<S: ShardStore> Storage<S> {
     fn cut_in(&self, state: &CoordState) -> Version
         ensures { result ≡ cut_in state.now (own_epoch self.now.state) }
     {
+        // The cut of the own epoch, and not of the newest: the server may have skipped epochs (invariant 4).
         let own = self.state.last().epoch();
+        // None only of a state that does not go on from the own one, which is refused before the cut is used.
         state.cut_of(own).unwrap_or(Version::ZERO)
     }
 }
@@ -122,7 +137,10 @@ fn move_to<S: ShardStore>(
     ensures trouble { IfErr result (IsMarkTrouble S.CanMeet S.CanMeetInPlace) }
     ensures leaves { OnErr result (LeavesStages (S.MayLeave store.new) (S.state store.old) (UndoTo cut ∷ SetState (spelling state.now) ∷ [])) }
 {
+    // Spelled first, because it is the step that takes memory: nothing is undone if it fails.
     let bytes = Bytes::from_vec(encode(alloc, state)?);
+    // Invariant 5: a crash between the two calls leaves the old epoch, undone to its cut, and the mark is heard
+    // again.
     store.undo_to(alloc, cut)?;
     store.set_state(alloc, bytes)?;
     Ok(())

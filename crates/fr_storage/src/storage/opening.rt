@@ -35,14 +35,18 @@ impl<S: ShardStore + Drop> Storage<S> {
     {
         storage_law();
         let mut store = store;
+        // Failed is answered before the state is spelled, so that it hides behind no Memory.
         if store.is_failed() {
             return Err(StorageFault::Store(StoreFault::Failed));
         }
         let bytes = Bytes::from_vec(encode(alloc, &state)?);
+        // Stored before the server exists: otherwise a crash would leave a store without a state, which cannot be
+        // adopted.
         store.set_state(alloc, bytes)?;
         Ok(Storage {
             tag,
             state,
+            // Read from the store, as at each opening (invariant 1).
             applied: store.applied(),
             floor: store.floor(),
             store,
@@ -66,6 +70,7 @@ impl<S: ShardStore + Drop> Storage<S> {
         ensures stands { IfOk result (λ s. StandsAgain S.state S.MayLeave (record { tag = tag; state = s.state; store = S.state store }) s) }
     {
         let mut store = store;
+        // The store alone says in which epoch it is, since the state is stored only after the undo (invariant 5).
         let state = kept_state(alloc, &mut store)?;
         Ok(Storage {
             tag,
@@ -99,8 +104,11 @@ impl<S: ShardStore> Storage<S> {
         ensures stands { StaysStanding S.state S.MayLeave [] self.old self.new (refusal_of result) }
     {
         store_laws();
+        // Set before the store is opened, and taken back only when all three are read: a refusal in between must
+        // leave the server failed (invariant 7).
         self.failed = true;
         self.store.reopen(alloc)?;
+        // Read before any field changes, because this can fail (invariant 1).
         let state = kept_state(alloc, &mut self.store)?;
         self.state = state;
         self.applied = self.store.applied();
@@ -127,6 +135,7 @@ fn kept_state<S: ShardStore>(alloc: Global, store: &mut S) -> Result<CoordState,
     match decode(alloc, bytes.as_slice()) {
         Ok(state) => Ok(state),
         Err(StateDecodeFault::Memory) => Err(StorageFault::Store(StoreFault::Memory)),
+        // These bytes were written by no server. Nothing tells its epoch, so it must not serve.
         Err(StateDecodeFault::Short) => Err(StorageFault::BadState),
         Err(StateDecodeFault::BadForm) => Err(StorageFault::BadState),
         Err(StateDecodeFault::Trailing) => Err(StorageFault::BadState),

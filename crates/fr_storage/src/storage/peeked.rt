@@ -49,15 +49,19 @@ impl<S: ShardStore> Storage<S> {
         if self.failed {
             return Err(StorageFault::Store(StoreFault::Failed));
         }
+        // Before the first call of the store (invariant 9).
         if let Some(refusal) = self.peeked_refusal(epoch, peeked) {
             return Err(refusal);
         }
+        // Fixed before the first record: the version applied rises meanwhile, but an answer is judged by where it
+        // found the server.
         let reach = Reach {
             applied: self.applied,
             end: self.state.end_of(epoch),
         };
         match pull(alloc, &mut self.store, &reach, peeked) {
             Ok(()) => {
+                // Taken from the store, so that the two cannot differ (invariant 1).
                 self.applied = self.store.applied();
                 self.floor = self.store.floor();
                 Ok(())
@@ -74,8 +78,12 @@ impl<S: ShardStore> Storage<S> {
         requires { self.now.failed ≡ false }
         ensures { result ≡ peeked_fault (storage_of S.state self.now) epoch peeked.now }
     {
+        // The version after the one applied decides, because records of the generation that ended there add nothing
+        // (invariants 2 and 3).
         match self.state.source_for(self.applied.get() + 1) {
             Some(source) if source.epoch() == epoch => {
+                // `<`: an answer may begin below the version applied, since late answers do, and what is held is
+                // passed over. One that begins above would leave a hole (invariant 3).
                 if self.applied < peeked.after() {
                     Some(StorageFault::Hole)
                 } else {
@@ -96,21 +104,23 @@ struct Reach {
 }
 
 impl Reach {
-    /// Whether a version is one of them.
     fn takes(&self, version: Version) -> bool
         ensures { result ≡ (nat_lt self.now.applied version && is_within self.now.end version) }
     {
         match self.end {
+            // `<=` at the end, which is the last version of the generation, and `<` at the version applied, which is
+            // held (invariant 3).
             Some(end) => self.applied < version && version <= end,
             None => self.applied < version,
         }
     }
 
-    /// A version, cut at the end.
     fn cut(&self, version: Version) -> Version
         ensures { result ≡ cut_at self.now.end version }
     {
         match self.end {
+            // A log of an old generation is complete past its end. Versions there are numbered anew by the next one
+            // (invariant 3).
             Some(end) => version.min(end),
             None => version,
         }
@@ -134,6 +144,8 @@ fn pull<S: ShardStore>(
     ensures idle { pull_calls (S.state store.old) reach.now.end peeked.now ≡ [] → IsOk result }
     ensures leaves { OnErr result (LeavesStages (S.MayLeave store.new) (S.state store.old) (pull_calls (S.state store.old) reach.now.end peeked.now)) }
 {
+    // In this order, since each next step needs the one before: to advance first would refuse the records, and to
+    // forget first could not yet reach the versions that they bring.
     apply_new(alloc, store, reach, peeked.records())?;
     advance_to(store, reach.cut(peeked.upto()))?;
     forget_known(alloc, store, peeked.known())?;
@@ -160,6 +172,7 @@ fn apply_new<S: ShardStore>(
         (map apply_of (records_between reach.now.applied reach.now.end records.now))) }
 {
     for record in records {
+        // Passed over and not refused: an answer overlaps what is held whenever the one before it was late.
         if reach.takes(record.version) {
             store.apply(alloc, record.version, &record.batch)?;
         }
@@ -176,6 +189,7 @@ fn advance_to<S: ShardStore>(store: &mut S, target: Version) -> Result<(), Store
     ensures idle { advance_calls (S.state store.old).applied target ≡ [] → IsOk result }
     ensures leaves { OnErr result (LeavesStages (S.MayLeave store.new) (S.state store.old) (advance_calls (S.state store.old).applied target)) }
 {
+    // `<`: the last record may stand at the target, and a store refuses to advance to where it is.
     if store.applied() < target {
         store.advance(target)?;
     }
@@ -199,7 +213,9 @@ fn forget_known<S: ShardStore>(
     ensures leaves { OnErr result (LeavesStages (S.MayLeave store.new) (S.state store.old)
         (forget_calls (S.state store.old).floor (min known (S.state store.old).applied))) }
 {
+    // `known` may be ahead of what this server has pulled. It can forget only rows that it has written (invariant 6).
     let through = known.min(store.applied());
+    // Tested here, so that an answer that brings nothing makes no call of the store (the clause `idle`).
     if store.floor() < through {
         store.forget_through(alloc, through)?;
     }

@@ -47,18 +47,24 @@ impl<S: ShardStore> Storage<S> {
         if self.failed {
             return Err(ReadFault::Store(StoreFault::Failed));
         }
+        // First of the refusals, because it does not depend on the version: a caller with the wrong server is told so
+        // whatever it asked for.
         if !shard.contains(key) {
             return Err(ReadFault::NotMine);
         }
+        // `<` and not `<=`: at the floor itself every row above is still there (invariant 6).
         if version < self.floor {
             return Err(ReadFault::TooOld);
         }
+        // Answering the value of now would promise that no later version up to this one changes it.
         if version > self.applied {
             return Err(ReadFault::FutureVersion);
         }
         match self.store.get_at(alloc, key, version) {
             Ok(value) => Ok(value),
             Err(StoreFault::Device) => {
+                // Only a failed device: a read changes nothing, so after `Memory` server and store still agree
+                // (invariant 1).
                 self.failed = true;
                 Err(ReadFault::Store(StoreFault::Device))
             }

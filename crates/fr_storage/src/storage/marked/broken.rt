@@ -62,11 +62,14 @@ impl<S: ShardStore> Storage<S> {
         spelling_law();
         let _sound = state.dropped();
         let cut = self.cut_in(state);
+        // Before the undo nothing has changed, so the version applied is a place to break off as well, without a
+        // call.
         if version != self.applied.min(cut) {
             return Ok(version == self.applied);
         }
         match undo_to(alloc, &mut self.store, cut) {
             Ok(()) => {
+                // The state is not kept: the break is between the two calls (invariant 5).
                 self.applied = version;
                 Ok(true)
             }
@@ -88,6 +91,7 @@ impl<S: ShardStore> Storage<S> {
         if self.failed {
             return false;
         }
+        // In the order of the call itself, since a caller asks here so as to know what it would answer.
         if self.marked_refusal(state).is_some() {
             return false;
         }

@@ -22,6 +22,9 @@ impl<S: ShardStore> Storage<S> {
     /// new record, and at the end of the answer or of its generation. True if it breaks off at this one; else
     /// nothing changes, and no call of the store is made. It is refused as the whole hear is, and a call of the
     /// store that is refused leaves the server failed.
+    ///
+    /// It is a call of its own, and not a store that fails: so it can say first whether the answer can break off
+    /// there.
     pub fn break_off_peeked(
         &mut self,
         alloc: Global,
@@ -62,6 +65,7 @@ impl<S: ShardStore> Storage<S> {
             return Err(refusal);
         }
         let records = peeked.records();
+        // Before the first call: nothing to do (invariant 8).
         if version == self.applied {
             return Ok(true);
         }
@@ -69,11 +73,14 @@ impl<S: ShardStore> Storage<S> {
             applied: self.applied,
             end: self.state.end_of(epoch),
         };
+        // Decided before the store is called, so that false means that nothing changed.
         if !stops_at(&reach, peeked, version) {
             return Ok(false);
         }
         match pull_through(alloc, &mut self.store, records, version) {
             Ok(()) => {
+                // The floor is left: forgetting is the last call, and a hear that broke off did not make it
+                // (invariant 8).
                 self.applied = version;
                 Ok(true)
             }
@@ -117,6 +124,7 @@ fn stops_at(reach: &Reach, peeked: &Peeked, version: Version) -> bool
     if !reach.takes(version) {
         return false;
     }
+    // Only where a call ends: a store is never seen between two of its states (invariant 8).
     version == reach.cut(peeked.upto()) || has_version(version, peeked.records())
 }
 
@@ -145,6 +153,8 @@ fn pull_through<S: ShardStore>(
 {
     let reach = Reach {
         applied: store.applied(),
+        // The version stands in for the end of the generation, which is not below it: so the same calls are made, up
+        // to there.
         end: Some(version),
     };
     apply_new(alloc, store, &reach, records)?;
