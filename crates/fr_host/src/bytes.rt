@@ -8,13 +8,13 @@ use sqlite_disk::Disk;
 use std::alloc::Global;
 use std::io;
 
-/// Makes place for a write.
 pub(crate) fn grow(bytes: &mut Vec<u8>, end: usize) -> io::Result<()>
     ensures torn { Torn (length bytes.old.items) (end - length bytes.old.items) bytes.old.items bytes.new.items }
     ensures err { OnErr result (bytes.new.items ≡ bytes.old.items) }
     ensures room { OnOk result (end ≤ length bytes.new.items) }
     ensures kind { finds_no_room result ≡ false }
 {
+    // A write inside the file needs no memory, so it cannot fail here.
     if end <= bytes.len() {
         return Ok(());
     }
@@ -24,7 +24,6 @@ pub(crate) fn grow(bytes: &mut Vec<u8>, end: usize) -> io::Result<()>
     }
 }
 
-/// Puts bytes in their place.
 pub(crate) fn put(file: &mut Vec<u8>, at: usize, bytes: &[u8])
     requires { at + length bytes.now ≤ length file.old.items }
     ensures holds { Holds file.new.items at bytes.now }
@@ -33,7 +32,7 @@ pub(crate) fn put(file: &mut Vec<u8>, at: usize, bytes: &[u8])
     file[at..at + bytes.len()].copy_from_slice(bytes);
 }
 
-/// Reads a part of a file from the disk below: what that says of bytes that no call wrote.
+/// Reads a part of a file from the disk below, whatever that says of bytes that no call wrote.
 pub(crate) fn fill<D: Disk>(
     below: &mut D,
     file: &mut Vec<u8>,
@@ -55,7 +54,6 @@ pub(crate) fn fill<D: Disk>(
     below.read_at(from, &mut file[from..to])
 }
 
-/// So many bytes of the disk below.
 fn read_part<D: Disk>(alloc: Global, below: &mut D, from: usize, n: usize) -> io::Result<Vec<u8>>
     requires usable { IsTrue (D.Disk.is_usable below.old) }
     requires some { 0 < n }
@@ -67,6 +65,7 @@ fn read_part<D: Disk>(alloc: Global, below: &mut D, from: usize, n: usize) -> io
     ensures key { D.Disk.key_of below.new ≡ D.Disk.key_of below.old }
     ensures crash { (c : List ℕ) → D.Disk.may_leave below.new c → D.Disk.may_leave below.old c }
 {
+    // In pieces of its own, because the copy must not change where the two differ.
     let Ok(mut found) = vec![in alloc; 0; n] else {
         return Err(io::ErrorKind::OutOfMemory.into());
     };
@@ -74,7 +73,6 @@ fn read_part<D: Disk>(alloc: Global, below: &mut D, from: usize, n: usize) -> io
     Ok(found)
 }
 
-/// Whether two pieces are the same.
 fn is_same(a: &[u8], b: &[u8]) -> bool
     ensures { result ≡ bytes_eq a.now b.now }
 {
@@ -98,10 +96,13 @@ pub(crate) fn compare<D: Disk>(
     ensures key { D.Disk.key_of below.new ≡ D.Disk.key_of below.old }
     ensures crash { (c : List ℕ) → D.Disk.may_leave below.new c → D.Disk.may_leave below.old c }
 {
+    // Only a write that begins past the old end leaves a gap.
     if from >= to {
         return Ok(());
     }
     let found = read_part(*file.allocator(), below, from, to - from)?;
+    // What no call wrote has to read as zero below, as it does in the copy: else a later opening would find other
+    // bytes (invariant 2).
     if !is_same(&found, &file[from..to]) {
         return Err(io::Error::other("a gap of the file has bytes"));
     }

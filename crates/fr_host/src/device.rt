@@ -10,15 +10,16 @@ use crate::marks::{keep, mark, overwrite};
 use fr_record::{Device, DeviceFault};
 use sqlite_disk::Disk;
 
-/// A device whose reads come from memory and whose writes go to a disk below too, which is read once. A byte is kept from
-/// the sync on to which that disk said yes. After its first write or sync that is refused each call answers `Device`,
-/// reads too: a kernel may drop what it could not write, so what the disk holds is not known until it is read again.
+/// A device whose reads come from memory and whose writes go to a disk below too, which is read once. A byte is kept
+/// from the sync on to which that disk said yes. After its first write or sync that is refused each call answers
+/// `Device`, reads too: a kernel may drop what it could not write, so what the disk holds is not known until it is
+/// read again.
 #[derive(Drop)]
 pub struct DiskDevice<K: Disk> {
     bytes: Vec<u8>,
     /// Of each byte, whether it was synced since it was written.
     marks: Vec<bool>,
-    /// All marks below this place are set.
+    /// All marks below this place are set, so that a sync walks only what was written since the last one.
     from: usize,
     kept_len: usize,
     capacity: usize,
@@ -38,6 +39,7 @@ fn failed<T>(failures: &mut u64) -> Result<T, DeviceFault>
     ensures fault { result ≡ Err DeviceFault.Device }
     ensures counted { failures.new ≡ counted failures.old result }
 {
+    // `Device` is answered nowhere else, so the count is exact (invariant 8 of fr_record).
     *failures = failures.saturating_add(1);
     Err(DeviceFault::Device)
 }
@@ -54,6 +56,7 @@ impl<K: Disk + Drop> Device for DiskDevice<K> {
     ghost Led = { λ d e. IsStep (disk_by d.bytes.items d.marks.items d.kept_len) (disk_by e.bytes.items e.marks.items e.kept_len) };
 
     fn read_at(&mut self, at: usize, buffer: &mut [u8]) -> Result<(), DeviceFault> {
+        // Reads too: the copy may hold bytes that the disk below never took (invariants 1 and 4).
         if self.is_shut {
             return failed(&mut self.failures);
         }
@@ -65,16 +68,23 @@ impl<K: Disk + Drop> Device for DiskDevice<K> {
         if self.is_shut {
             return failed(&mut self.failures);
         }
+        // Before anything changes, because `Full` leaves no byte.
         if bytes.len() > self.capacity - at {
             return Err(DeviceFault::Full);
         }
+        // The disk below need not be asked, and could only fail.
         if bytes.is_empty() {
             return Ok(());
         }
+        // The copy first, in the room that it has (invariant 5). If the disk below refuses, nobody reads the copy any
+        // more (invariant 4).
         overwrite(&mut self.bytes, at, bytes);
+        // Taken back before the disk below is called: a write that failed may have left any bytes in its range
+        // (invariant 3).
         mark(&mut self.marks, at, bytes.len());
         self.from = self.from.min(at);
         if self.below.write_at(at, bytes).is_err() {
+            // Invariant 4. A device has no way to make a write anew: its callers are told `Device` and open it again.
             self.is_shut = true;
             return failed(&mut self.failures);
         }
@@ -85,10 +95,12 @@ impl<K: Disk + Drop> Device for DiskDevice<K> {
         if self.is_shut {
             return failed(&mut self.failures);
         }
+        // The disk below first: no byte is kept before it says so (invariant 3).
         if self.below.sync().is_err() {
             self.is_shut = true;
             return failed(&mut self.failures);
         }
+        // Only marks from here on may be unset.
         let from = self.from;
         keep(&mut self.marks, from);
         self.from = self.bytes.len();

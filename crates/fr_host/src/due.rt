@@ -5,6 +5,6 @@
 pub(crate) struct Due {
     pub(crate) at: usize,
     pub(crate) end: usize,
-    /// How many bytes there were before it.
+    /// Bytes of the file before the write: from here to `at` is the gap that it left, if it began past the end.
     pub(crate) old_len: usize,
 }

@@ -4,7 +4,7 @@ use thiserror::Error;
 /// Why a file of the host was not opened as a device. What was at its name is left as it was.
 #[derive(Clone, Copy, Debug, PartialEq, Eq, Error)]
 pub enum HostFault {
-    /// Another process or handle has it.
+    /// Another process or handle has the lock of it.
     #[error("the file is in use")]
     Busy,
     /// Its folder is missing.
@@ -25,7 +25,7 @@ pub enum HostFault {
     /// A growth of memory was refused.
     #[error("out of memory")]
     Memory,
-    /// Another call of the host on it failed.
+    /// Any other error of the host.
     #[error("the file failed")]
     Failed,
 }

@@ -29,6 +29,7 @@ fn lengthen<T: Copy>(list: &mut Vec<T>, len: usize, value: T)
     if list.len() < len {
         match list.resize(len, value) {
             Ok(()) => {}
+            // The room was reserved when the device was made (invariant 5).
             Err(_) => unreachable!(),
         }
     }
@@ -46,6 +47,7 @@ pub(crate) fn overwrite(bytes: &mut Vec<u8>, at: usize, new: &[u8])
     ensures capacity { vec_capacity bytes.old ≤ vec_capacity bytes.new }
 {
     let end = at + new.len();
+    // Lengthened first, so that one copy does for a write inside, over the end and behind it.
     lengthen(bytes, end, 0);
     bytes[at..end].copy_from_slice(new);
 }
@@ -59,11 +61,11 @@ pub(crate) fn mark(marks: &mut Vec<bool>, at: usize, n: usize)
     ensures outside { (i : _) → (i < at) ⊎ (at + n ≤ i) → get_or marks.new.items i false ≡ get_or marks.old.items i false }
     ensures capacity { vec_capacity marks.old ≤ vec_capacity marks.new }
 {
+    // New bytes begin as not kept: only a sync can change that (invariant 3).
     lengthen(marks, at + n, false);
     marks[at..at + n].fill(false);
 }
 
-/// Marks all places from one on as kept.
 pub(crate) fn keep(marks: &mut Vec<bool>, from: usize)
     requires within { from ≤ length marks.old.items }
     requires below { (i : _) → i < from → get_or marks.old.items i false ≡ true }

@@ -15,6 +15,9 @@ use std::io;
 
 /// A disk in memory with all its writes on the disk below too. A write that the disk below refuses, as one that is full
 /// does, is made anew before the next write, cut or sync, so it does not end the disk.
+///
+/// The price of reads from memory is that the whole database is there. A cut or a sync that fails ends the mirror; a
+/// write that fails does not.
 #[derive(Drop)]
 pub struct Mirror<D: Disk> {
     bytes: Vec<u8>,
@@ -43,6 +46,7 @@ fn count(outcome: io::Result<()>, faults: &mut u64, refused: &mut u64) -> io::Re
         Ok(()) => Ok(()),
         Err(error) => {
             *faults = faults.saturating_add(1);
+            // Counted apart, because a store answers `Full` only where this count rises.
             if is_no_room(&error) {
                 *refused = refused.saturating_add(1);
             }
@@ -51,7 +55,7 @@ fn count(outcome: io::Result<()>, faults: &mut u64, refused: &mut u64) -> io::Re
     }
 }
 
-/// A call that is not made.
+/// A call that is refused without a call of the disk below, after an earlier one failed.
 pub(crate) fn not_made() -> io::Result<()>
     ensures kind { finds_no_room result ≡ false }
     ensures err { is_ok result ≡ false }
@@ -91,6 +95,7 @@ impl<D: Disk + Drop> Disk for Mirror<D> {
     }
 
     fn key(&self) -> u64 {
+        // Handed on, because digests are made with the key that the files were opened with.
         self.below.key()
     }
 
@@ -110,9 +115,11 @@ impl<D: Disk + Drop> Disk for Mirror<D> {
     }
 
     fn read_at(&mut self, at: usize, buf: &mut [u8]) -> io::Result<()> {
+        // Subtracted only behind this test, so that no sum overflows.
         if at > self.bytes.len() || buf.len() > self.bytes.len() - at {
             return Err(io::ErrorKind::UnexpectedEof.into());
         }
+        // From the copy, whatever became of the file since (invariant 1).
         buf.copy_from_slice(&self.bytes[at..at + buf.len()]);
         Ok(())
     }
@@ -133,12 +140,14 @@ impl<D: Disk + Drop> Disk for Mirror<D> {
     }
 
     fn set_len(&mut self, len: usize) -> io::Result<()> {
+        // Counted at the door, whichever step failed.
         let outcome = self.cut(len);
         count(outcome, &mut self.faults, &mut self.refused)
     }
 
     fn sync(&mut self) -> io::Result<()> {
         let outcome = self.settle();
+        // It stays lost: a later sync that succeeds says nothing of what an earlier one dropped (invariant 7).
         self.is_lost = self.is_lost || outcome.is_err();
         count(outcome, &mut self.faults, &mut self.refused)
     }

@@ -29,6 +29,7 @@ fn read_whole<K: Disk>(
     ensures usable { IsTrue (K.Disk.is_usable below.new) }
     ensures crash { (left : List ℕ) → K.Disk.may_leave below.new left → K.Disk.may_leave below.old left }
 {
+    // Room for all that may ever be written, and not only for what is there (invariant 5).
     let Ok(mut bytes) = Vec::with_capacity(alloc, capacity) else {
         return Err(io::ErrorKind::OutOfMemory.into());
     };
@@ -40,8 +41,8 @@ fn read_whole<K: Disk>(
 }
 
 impl<K: Disk + Drop> DiskDevice<K> {
-    /// A device over a disk, which is synced and read whole. It has the room that is asked for, or that of the bytes that
-    /// are there if they are more.
+    /// A device over a disk, which is synced and read whole. It has the room that is asked for, or that of the bytes
+    /// that are there if they are more.
     ///
     /// # Errors
     ///
@@ -54,10 +55,13 @@ impl<K: Disk + Drop> DiskDevice<K> {
         ensures failures { IfOk result (λ d. ⟦<DiskDevice<K> as Device>⟧.failures_of d ≡ 0) }
     {
         let mut below = below;
+        // Before it is read, since a crash must leave what the copy holds from the start (invariant 3).
         below.sync()?;
         let len = below.len()?;
+        // A file that is longer than the room asked for is not cut: its records are read, and it takes no more.
         let capacity = room.max(len);
         let bytes = read_whole(alloc, &mut below, len, capacity)?;
+        // All set, because the disk was synced above.
         let Ok(marks) = all_kept(alloc, len, capacity) else {
             return Err(io::ErrorKind::OutOfMemory.into());
         };
@@ -73,15 +77,16 @@ impl<K: Disk + Drop> DiskDevice<K> {
         })
     }
 
-    /// What a crash may leave of the disk below, it may leave of the device, if the disk answered truly: a byte that the
-    /// device says is kept, is.
+    /// What a crash may leave of the disk below, it may leave of the device, if the disk answered truly: a byte that
+    /// the device says is kept, is.
     pub fn leaves(&self)
         ensures { IsTrue (K.Disk.is_clean (below_of self.now)) → Left (K.Disk.may_leave (below_of self.now)) (⟦<DiskDevice<K> as Device>⟧.disk self.now) }
     {
+        // Nothing runs: the clause is the type's own, read here.
         let _leaves = self.failures;
     }
 
-    /// Gives the disk back.
+    /// The disk below as it stands, shut or not.
     pub fn into_below(self) -> K
         ensures { result ≡ below_of self }
     {

@@ -17,6 +17,7 @@ impl<D: Disk + Drop> Mirror<D> {
         ensures usable { IsTrue result → IsTrue (D.Disk.is_usable self.now.below) }
         ensures mixing { IsTrue result → IsTrue self.now.mixes → IsTrue (D.Disk.is_mixing self.now.below) }
     {
+        // Asked each time and not once: what the disk below says of itself may change (invariant 8).
         self.below.may_be_used() && (!self.mixes || self.below.mixes())
     }
 
@@ -41,8 +42,11 @@ impl<D: Disk + Drop> Mirror<D> {
         if !self.may_write() {
             return not_made();
         }
+        // The bytes are taken from the copy, so they are those of the write that failed (invariant 6).
         self.below.write_at(due.at, &self.bytes[due.at..due.end])?;
+        // The gap before the write is not ours: it is compared, because an opening would read it (invariant 2).
         compare(&mut self.below, &self.bytes, due.old_len, due.at)?;
+        // Last: each `?` above leaves the write due, to be made anew (invariant 6).
         self.due = None;
         Ok(())
     }
@@ -68,8 +72,11 @@ impl<D: Disk + Drop> Mirror<D> {
     {
         let old_len = self.bytes.len();
         let end = at + bytes.len();
+        // Out of memory leaves the copy as it was, with nothing due.
         grow(&mut self.bytes, end)?;
         put(&mut self.bytes, at, bytes);
+        // Noted as due before the disk below is called: so a write that fails and one that was not tried are the same
+        // thing (invariant 6).
         self.due = Some(Due { at, end, old_len });
         Ok(())
     }
@@ -91,14 +98,17 @@ impl<D: Disk + Drop> Mirror<D> {
             (Leaves self.old.mixes self.old.due self.old.bytes.items (D.Disk.may_leave self.old.below))
             (Leaves self.new.mixes self.new.due self.new.bytes.items (D.Disk.may_leave self.new.below)) }
     {
+        // The sum is tested here, because `at` is the caller's.
         if self.is_torn || bytes.len() > usize::MAX - at {
             return not_made();
         }
         if bytes.is_empty() {
             return Ok(());
         }
+        // The one before comes first, since one write can be due (invariant 6).
         self.mend()?;
         self.place(at, bytes)?;
+        // The new one, by the same way as a write made anew.
         self.mend()
     }
 
@@ -118,6 +128,7 @@ impl<D: Disk + Drop> Mirror<D> {
         if self.is_torn {
             return not_made();
         }
+        // A write due behind the new end would be made anew behind it.
         self.mend()?;
         if !self.below.may_be_used() {
             return not_made();
@@ -142,12 +153,17 @@ impl<D: Disk + Drop> Mirror<D> {
         ensures crash { Follows (Cut len) (D.Disk.may_leave self.old.below) (D.Disk.may_leave self.new.below) }
     {
         let old = self.bytes.len();
+        // The step that needs memory first, while the disk below is as it was.
         grow(&mut self.bytes, len)?;
+        // Set before the call and taken back at the end, so that every way out in between leaves it torn (invariant
+        // 7).
         self.is_torn = true;
         self.below.set_len(len)?;
         if old < len {
+            // Lengthened: the new bytes are read and not assumed to be zero (invariant 1).
             fill(&mut self.below, &mut self.bytes, old, len)?;
         } else {
+            // The copy is cut after the disk below: while that could fail, the copy still had all bytes.
             self.bytes.truncate(len);
         }
         self.is_torn = false;
@@ -170,6 +186,7 @@ impl<D: Disk + Drop> Mirror<D> {
         if self.is_torn {
             return not_made();
         }
+        // Before the sync, which has to cover it (invariant 6).
         self.mend()?;
         if !self.below.may_be_used() {
             return not_made();

@@ -20,12 +20,14 @@ impl<D: Disk + Drop> Mirror<D> {
         ensures crash { IfOk result (λ m. (c : List ℕ) → D.Disk.may_leave (below_of m) c → D.Disk.may_leave below c) }
     {
         let mut below = below;
+        // Asked once: it is what the mirror says of itself from then on (invariant 8).
         let mixes = below.mixes();
         let len = below.len()?;
         let mut bytes = match vec![in alloc; 0; len] {
             Ok(bytes) => bytes,
             Err(_) => return Err(io::ErrorKind::OutOfMemory.into()),
         };
+        // The one read of the file (invariant 1).
         below.read_at(0, &mut bytes)?;
         Ok(Mirror {
             bytes,
@@ -39,7 +41,7 @@ impl<D: Disk + Drop> Mirror<D> {
         })
     }
 
-    /// The disk below.
+    /// The disk below, to which all writes go.
     pub fn below(&self) -> &D
         ensures { result.now ≡ below_of self.now }
     {

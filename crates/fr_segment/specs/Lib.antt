@@ -1,0 +1,10 @@
+pub mod Crc
+pub mod File
+pub mod Table
+pub mod Group
+pub mod Parse
+pub mod State
+pub mod Put
+pub mod Opening
+pub mod Laws
+pub mod Header

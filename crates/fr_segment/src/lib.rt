@@ -1,0 +1,46 @@
+//! Record files of format 2: groups of records with numbers and checksums, which tell damage; and the record by which a
+//! file says whose it is.
+//!
+//! # Invariants
+//!
+//! Lines that rely on one of these cite its number.
+//!
+//! 1. A file is groups, each behind an open gate, then a gate 00 00, and anything (`StandsFor`). So a file stands for one
+//!    list of groups at most (`left_law`).
+//! 2. A group is written behind the closed gate and synced before the gate is opened (`IsPut`). In any other order a crash
+//!    could leave an open gate before bytes that were never written.
+//! 3. Whatever a crash leaves while a group is in flight stands for the groups before it or for those with the whole of it
+//!    (`IsLeft`; `left_law`).
+//! 4. A gate has two bytes. Of one byte, one change could close it, and the file would end there in silence. Both are
+//!    written by one call, so a torn gate may hold any two bytes: only 00 00 is closed.
+//! 5. Only the last group's gate may be torn, since opening writes such a gate anew before anything is put behind it. An
+//!    earlier gate that is not 01 01 is damage, and the file is `Broken`.
+//! 6. Behind the closed gate of a file at rest no group of the next number begins (`IsGuarded`, `IsAtRest`). Otherwise one
+//!    changed byte of the gate would bring back a group that was never acknowledged, or one of an older file. So whatever
+//!    writes a closed gate writes a guard behind it, and opening writes one where such a group lies.
+//! 7. The number of a group is in its checksums and not in the file. So a group that is read in another group's place is
+//!    refused, and no byte is spent on it.
+//! 8. Between calls everything is synced unless the file failed (`IsDurable`; the clause `kept`). After `Device` the file
+//!    answers `Failed` until it is opened again, since a failed write may have left any bytes in its range.
+//! 9. `Full` and `Memory` come before the first byte is written, and change nothing (the clauses `full` and `err`).
+//! 10. The table has the place of each record, `end` is the place of the closed gate, and `count` how many groups there are
+//!     (`IsFile`). So a look-up is one read, and no call walks the file.
+#![tactic(auto)]
+
+mod crc;
+mod gate;
+mod laws;
+mod parse;
+mod place;
+mod read;
+mod segment;
+mod spell;
+#[cfg(test)]
+mod tests;
+mod whose;
+
+pub use crc::{crc32c, sum};
+pub use laws::{crc_law, damage_law, header_law, left_law};
+pub use segment::Segment;
+pub use spell::group_len;
+pub use whose::{header, header_number, identity};
