@@ -49,7 +49,7 @@ use Rattle.fr_run_headline.proofs.Requests.{proxy_is}
 use Rattle.fr_run_outcomes.specs.Once.{IsAnswered}
 use Rattle.fr_run_outcomes.specs.Pulling.{AllServed, MarkedIsServed}
 use Rattle.fr_run_outcomes.proofs.Marking.{has_mark}
-use Rattle.fr_run_outcomes.proofs.Pulling.{left_latest, left_few}
+use Rattle.fr_run_outcomes.proofs.Left.{left_latest, left_few}
 use Rattle.fr_run_commits.specs.Committing.{IsServing, AnswersOn, NextIsAnswered, CommitsOn, NextIsCommitted}
 use Rattle.fr_run_commits.specs.Going.{IsOwnOf}
 use Rattle.fr_run_commits.proofs.Asking.{CanTake, request_of, place_of, open_of, placed_by, takes_turn, numbers_turn, hears_turn, asking, HasAsked, has_asked, asking_turns, not_gone}

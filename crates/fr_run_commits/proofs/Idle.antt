@@ -3,7 +3,7 @@ use Rattle.std.proofs.Common.{◌≡◌, ℕ, ◌+◌, ◌-◌, ◌<◌, ◌≤�
 use Rattle.std.specs.Prelude.{is_some, reverse, IfSome}
 use Rattle.std.specs.List.{Contains}
 use Rattle.std.specs.Option.{option_map}
-use Rattle.std.proofs.lemmas.Bool.{and_parts, or_parts, eqb-true, eq-eqb}
+use Rattle.std.proofs.lemmas.Bool.{and_parts, or_parts, eqb-true}
 use Rattle.std.proofs.lemmas.List.{length-reverse}
 use Rattle.std.proofs.lemmas.Option.{slice_get_within}
 use Rattle.fr_base.specs.declared.place.NodeId.{NodeId}
@@ -17,7 +17,7 @@ use Rattle.fr_run.specs.Laws.{Laws}
 use Rattle.fr_run.specs.Nodes.{is_open, proxy_at}
 use Rattle.fr_run.specs.Run.{IsRun}
 use Rattle.fr_run.specs.Turn.{Turn}
-use Rattle.fr_run.proofs.Cells.{Contains-here, Contains-later, Contains-none, Contains-cases}
+use Rattle.fr_run.proofs.Cells.{Contains-here, Contains-later}
 use Rattle.fr_run_headline.specs.Numbers.{Numbering, numbers, requests_in, AreCounted}
 use Rattle.fr_run_headline.specs.Proxies.{IsNumberOf, IsOpenOf}
 use Rattle.fr_run_headline.proofs.Counted.{numbers_counted}
@@ -25,6 +25,7 @@ use Rattle.fr_run_headline.proofs.Numbers.{numbers_stay}
 use Rattle.fr_run_headline.proofs.Proxies.{requests_are, proxies_are}
 use Rattle.fr_run_headline.proofs.ProxyRule.{IsProxyRule, proxy_holds}
 use Rattle.fr_run_headline.proofs.Taken.{HasBatch, number_has_batch}
+use Rattle.fr_run_outcomes.proofs.Counting.{counted_below}
 
 -- ---- the last request has a number
 
@@ -76,21 +77,6 @@ last_is p (n ∷ ns) = go (p == n.proxy) refl (last_is p ns)
     go true e before = inr (n, Contains-here n ns, sym (eqb-true p n.proxy e), refl)
     go false e (inl none) = inl none
     go false e (inr (m, there, own, is)) = inr (m, Contains-later n ns m there, own, is)
-
--- and is not below any of them
-counted_below : (ns : List Numbering) → AreCounted ns → (x : Numbering) → Contains ns x → x.request ≤ requests_in x.proxy ns
-counted_below [] all x k = absurd (Contains-none k)
-counted_below (n ∷ ns) (next, all) x k = elim (Contains-cases n ns x k) [
-  | inl same ↦ subst (λ (y : Numbering). y.request ≤ requests_in y.proxy (n ∷ ns)) same (here n.proxy refl)
-  | inr later ↦ there (x.proxy == n.proxy) refl (counted_below ns all x later)
-]
-  where
-    here : (p : ℕ) → p ≡ n.proxy → n.request ≤ cond (p == n.proxy) n.request (requests_in p ns)
-    here p e = rw (eq-eqb p n.proxy e) (omega arith)
-
-    there : (b : Bool) → (x.proxy == n.proxy) ≡ b → x.request ≤ requests_in x.proxy ns → x.request ≤ cond b n.request (requests_in x.proxy ns)
-    there true e le = let same : requests_in x.proxy ns ≡ requests_in n.proxy ns = ap (λ p. requests_in p ns) (eqb-true x.proxy n.proxy e) in omega (arith, le, same, next)
-    there false e le = le
 
 -- what takes a batch has none under way, and did not end
 pub record IsIdle (s : ProxyState) : Type 0 where

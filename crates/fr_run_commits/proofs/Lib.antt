@@ -5,5 +5,6 @@ pub mod Committing
 pub mod Fresh
 pub mod Returning
 pub mod Sent
+pub mod LandingPush
 pub mod Landing
 pub mod First

@@ -46,8 +46,8 @@ use Rattle.fr_run_outcomes.specs.Returning.{LowIsUnlocked, ServesOn, ServiceRetu
 use Rattle.fr_run_outcomes.proofs.Counts.{below_all}
 use Rattle.fr_run_outcomes.proofs.Going.{stands, goes_further, still_up, log_still_up}
 use Rattle.fr_run_outcomes.proofs.Lists.{in_range}
-use Rattle.fr_run_outcomes.proofs.Locking.{other_last}
-use Rattle.fr_run_outcomes.proofs.Pulling.{left_latest, left_few}
+use Rattle.fr_run_outcomes.proofs.LockAnswers.{other_last}
+use Rattle.fr_run_outcomes.proofs.Left.{left_latest, left_few}
 use Rattle.fr_run_outcomes.proofs.Recovering.{no_log_gone, none_there}
 use Rattle.fr_run_outcomes.proofs.Rooms.{durable_left}
 use Rattle.fr_run_commits.specs.Committing.{IsServing, CommitsOn, NextIsCommitted}

@@ -5,9 +5,8 @@ use Rattle.fr_base.specs.declared.place.NodeId.TheVariants as node
 use Rattle.fr_state.specs.Generations.{LogGeneration, CoordinatedState}
 use Rattle.fr_log.specs.Push.{PushContent}
 use Rattle.fr_log.specs.LogState.{durable_of, known_of}
-use Rattle.fr_log.specs.Step.{mark_answer}
 use Rattle.fr_log.specs.declared.ask.LogAsk.TheVariants.{Push}
-use Rattle.fr_log.specs.declared.ask.LogTell.TheVariants.{Held, Seeded}
+use Rattle.fr_log.specs.declared.ask.LogTell.TheVariants.{Held, Marked, Seeded}
 use Rattle.fr_ask.specs.declared.ask.Ask.TheVariants as ask
 use Rattle.fr_ask.specs.declared.tell.Tell.TheVariants as tell
 use Rattle.fr_proxy.specs.Sequencer.{told}
@@ -52,7 +51,7 @@ SeededIsSeeded = (c : Config) (h : List Turn) → IsRun c h → (e i : ℕ) (to 
 
 -- a state that a log told as its mark is that of its epoch, which is open
 abbrev pub MarkedIsState : Type 0
-MarkedIsState = (c : Config) (h : List Turn) → IsRun c h → (e i : ℕ) (to : NodeId) (x : CoordinatedState) → Told h (node.Log e i) to (tell.Log (mark_answer (Some x))) → IsMarkOf c h e x
+MarkedIsState = (c : Config) (h : List Turn) → IsRun c h → (e i : ℕ) (to : NodeId) (x : CoordinatedState) → Told h (node.Log e i) to (tell.Log (Marked x)) → IsMarkOf c h e x
 
 -- ---- bounds
 

@@ -13,7 +13,7 @@ use Rattle.fr_undo.specs.Canonical.{Commit, contents_after, rows_after}
 use Rattle.fr_state.specs.Generations.{CoordinatedState}
 use Rattle.fr_state.specs.LookUp.{cut_of}
 use Rattle.fr_state.specs.Spelling.{spelling}
-use Rattle.fr_log.specs.Step.{mark_answer}
+use Rattle.fr_log.specs.declared.ask.LogTell.TheVariants.{Marked}
 use Rattle.fr_ask.specs.declared.tell.Tell.{Tell}
 use Rattle.fr_ask.specs.declared.tell.Tell.TheVariants as tell
 use Rattle.fr_proxy.specs.Proxy.{Open}
@@ -67,7 +67,7 @@ pub record HasRolledBack (c : Config) (h : List Turn) (tag : ℕ) : Type 0 where
   pub epoch : ℕ
   pub log : ℕ
   pub state : CoordinatedState
-  pub now : StorageHeard tag (node.Log epoch log) (tell.Log (mark_answer (Some state))) None None ∷ before ≡ h
+  pub now : StorageHeard tag (node.Log epoch log) (tell.Log (Marked state)) None None ∷ before ≡ h
   pub later : own_epoch (storage_at c before tag).state < own_epoch state
 
 -- the version applied of a storage server

@@ -1,12 +1,11 @@
 -- What a log told, against what is chosen and what it was asked.
-use Rattle.std.specs.Prelude.{◌≡◌, ◌<◌, ◌≤◌, ◌⊎◌, ℕ, List, length, Some}
+use Rattle.std.specs.Prelude.{◌≡◌, ◌<◌, ◌≤◌, ◌⊎◌, ℕ, List, length}
 use Rattle.fr_base.specs.declared.place.NodeId.{NodeId}
 use Rattle.fr_base.specs.declared.place.NodeId.TheVariants as node
 use Rattle.fr_state.specs.Generations.{CoordinatedState}
 use Rattle.fr_log.specs.Peeked.{PeekedContent}
-use Rattle.fr_log.specs.Step.{mark_answer}
 use Rattle.fr_log.specs.declared.ask.LogAsk.TheVariants.{Peek}
-use Rattle.fr_log.specs.declared.ask.LogTell.TheVariants.{Peeked}
+use Rattle.fr_log.specs.declared.ask.LogTell.TheVariants.{Marked, Peeked}
 use Rattle.fr_ask.specs.declared.ask.Ask.TheVariants as ask
 use Rattle.fr_ask.specs.declared.tell.Tell.TheVariants as tell
 use Rattle.fr_run.specs.Config.{Config}
@@ -17,7 +16,7 @@ use Rattle.fr_run.specs.States.{state_of, IsChosenEpoch}
 -- a state that a log told as its mark is that of its epoch, which is chosen
 abbrev pub MarkedIsChosen : Type 0
 MarkedIsChosen =
-    (c : Config) (h : List Turn) → IsRun c h → (e i : ℕ) (to : NodeId) (x : CoordinatedState) → Told h (node.Log e i) to (tell.Log (mark_answer (Some x)))
+    (c : Config) (h : List Turn) → IsRun c h → (e i : ℕ) (to : NodeId) (x : CoordinatedState) → Told h (node.Log e i) to (tell.Log (Marked x))
     → IsChosenEpoch c h e × (x ≡ state_of c h e)
 
 -- a node asked a log for records of this tag above this version, or is the storage server of the tag, which may

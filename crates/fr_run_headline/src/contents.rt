@@ -12,9 +12,16 @@ use fr_tail::laws::copy_law;
 fn lower_laws()
     ensures { Laws }
 {
+    // Laws of other crates are had by calling them, since a proof may cite no lemma of another crate.
     node_laws();
+    // What a log was pushed is the batch cut to its tags, so that "part" means the same for proxy and log (invariant
+    // 9).
     split_law();
+    // A seed is made from what a recoverer copied. Without this law its records would not be known to be parts
+    // (invariant 9).
     copy_law();
+    // The log of a run frees nothing, but the one that serves does. This law says that both tell the same (invariant
+    // 9).
     letting_law();
 }
 
@@ -25,6 +32,7 @@ pub fn issued_law()
     ensures rises { IssuedRises }
     ensures lasts { IssuedLasts }
 {
+    // Rests on invariant 1: an entry is a number of the sequencer with the batch of its proxy. Hence invariant 8.
     lower_laws();
 }
 

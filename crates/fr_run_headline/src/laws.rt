@@ -29,6 +29,8 @@ use fr_undo::inverse_law;
 fn contents_laws()
     ensures { contents.Laws }
 {
+    // As the private `lower_laws` of `contents`, because this module needs the same facts as one part of its own
+    // record.
     node_laws();
     split_law();
     copy_law();
@@ -40,15 +42,25 @@ pub fn lower_laws()
     ensures { Laws }
 {
     contents_laws();
+    // What a store makes of each call, since following is said of stores (invariant 10).
     store_laws();
+    // Where a list of generations cuts an epoch, and which generation is the source of a version: both are of the
+    // line, also where a state dropped its first generations (invariant 8).
     cut_law();
     source_law();
     left_law();
+    // What is popped is known to be committed (invariant 6 of fr_log), so no copy needs it (invariant 11).
     pop_law();
+    // Replies that cover meet the holders of each tag. Hence a version that all of them hold can be copied (invariant
+    // 7), and what is committed can be retrieved while fewer than k logs are lost.
     cover_law();
+    // A batch that is cut to a shard does there what the whole batch does, so a server's rows are its shard of the
+    // map (invariant 10).
     after_law();
     clip_law();
     shard_fold_law();
+    // One hear at a time: that a server which follows goes on following at a true answer. That answers are true is
+    // invariant 9.
     hear_law();
 }
 
@@ -59,6 +71,8 @@ pub fn agree_law()
     ensures lines { LinesAgree }
     ensures agree { PartsAgree }
 {
+    // Along the line and not along the state: a state may have dropped generations, and the law must not get weaker
+    // then (invariant 8).
     lower_laws();
 }
 
@@ -88,13 +102,15 @@ pub fn let_go_law()
     lower_laws();
 }
 
-/// At every moment there is a committed list, by the chosen epoch of the greatest ballot: its versions rise, through one
-/// that each log of the epoch has come to. It only grows: at each later moment it begins with what it was.
+/// At every moment there is a committed list, by the chosen epoch of the greatest ballot: its versions rise, through
+/// one that each log of the epoch has come to. It only grows: at each later moment it begins with what it was.
 pub fn committed_law()
     ensures latest { LatestIsThere }
     ensures there { CommittedIsThere }
     ensures grows { CommittedGrows }
 {
+    // By the chosen epoch of the greatest ballot, because lines of chosen epochs begin one another (`register_law` of
+    // fr_register). So the list can only grow (invariant 12).
     lower_laws();
 }
 
@@ -109,11 +125,12 @@ pub fn order_law()
     ensures held { HeldIsChosen }
     ensures consistent { NeverInconsistent }
 {
+    // By invariants 5 and 7 for what is known and acknowledged. A floor is at most what was known (invariant 11).
     lower_laws();
 }
 
-/// Each version that a proxy answers to be committed is acknowledged with the batch that the proxy has under way, and the
-/// committed list has this batch.
+/// Each version that a proxy answers to be committed is acknowledged with the batch that the proxy has under way, and
+/// the committed list has this batch.
 pub fn acknowledged_law()
     ensures batches { AcknowledgedHasBatch }
     ensures committed { AcknowledgedIsCommitted }
@@ -131,6 +148,7 @@ pub fn headline_law()
     ensures headline { Headline }
     ensures retrievable { CommittedIsRetrievable }
 {
+    // Of every state of a store, not only of those in runs: that is the first sentence of the theorem.
     inverse_law();
     lower_laws();
 }
@@ -141,12 +159,18 @@ pub fn safety_law()
     ensures turns { EachTurnGrows }
     ensures stands { StandingGrows }
 {
+    // Brings invariants 5 and 6.
     version_law();
+    // Invariant 7, also for recoverers whose replies leave them lost.
     replied_law();
     contents_law();
     order_law();
+    // Invariant 10, which each later law about rollback needs first: only a server that follows can be compared with
+    // the list.
     follow_law();
+    // Invariant 11. It is a law of its own, because without pops all other laws hold without it.
     let_go_law();
+    // Invariant 12: before it, "committed" is said of one moment alone.
     committed_law();
     acknowledged_law();
     headline_law();

@@ -21,6 +21,7 @@ pub fn number_law()
     ensures chain { NumbersChain }
     ensures told { NumbersTold }
 {
+    // The sequencer answers its proxies' repeats with the same number, so a chain has no branch (invariant 1).
     node_laws();
 }
 
@@ -36,6 +37,8 @@ pub fn sent_law()
 pub fn logs_law()
     ensures own { LogsAreOwn }
 {
+    // A log takes a push only behind its last one (invariant 1 of fr_log), and pushes are of numbers: hence invariant
+    // 2.
     node_laws();
 }
 
@@ -44,6 +47,8 @@ pub fn locks_law()
     ensures told { LockedStandsStill }
     ensures replies { RepliesStandStill }
 {
+    // A locked log stands still (invariant 5 of fr_log), so the reply stays true however late it is heard (invariant
+    // 3).
     node_laws();
 }
 
@@ -96,6 +101,7 @@ pub fn known_law()
     ensures pushes { PushKnownIsBelow }
     ensures logs { LogKnownIsBelow }
 {
+    // By invariant 2: a Held says that the log reached the version, and a proxy waits for all of them (invariant 5).
     node_laws();
 }
 
@@ -109,6 +115,8 @@ pub fn order_law()
     ensures below_later { BelowIsHeldLater }
     ensures acknowledged_later { AcknowledgedIsHeldLater }
 {
+    // Every log has what is known (invariant 5), so the least `durable` of the replies is not below the greatest
+    // `known` (invariant 6).
     node_laws();
 }
 
@@ -121,6 +129,8 @@ pub fn seeded_law()
     ensures sent { SentIsSeeded }
     ensures chosen { ChosenIsSeeded }
 {
+    // A recoverer writes after the last Seeded (invariant 6 of fr_epoch), and a log keeps its seed: hence invariant
+    // 4.
     node_laws();
 }
 
@@ -143,6 +153,8 @@ pub fn below_law()
     ensures chosen { ChosenStaysBelow }
     ensures acknowledged { AcknowledgedIsKept }
 {
+    // Along a line each generation takes over what the one before reached (invariants 4 and 6), so "below" is
+    // inherited (invariant 7).
     node_laws();
 }
 

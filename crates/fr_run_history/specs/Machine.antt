@@ -18,8 +18,9 @@ pub record Item : Type 0 where
   pub name : Name
   pub batch : List Mutation
 
--- the machine: the batches that were submitted; the list of those that are committed, and the version through which it is final; the names of those that were
--- acknowledged; and for each storage server the version through which the list is settled there
+-- the machine: the batches submitted; the list of those that are committed, and the version through which no more come
+-- into it; the names of those acknowledged; and for each storage server's tag the version through which it answers from
+-- the list for good
 pub record Machine : Type 0 where
   pub submitted : List (Name × List Mutation)
   pub list : List Item
@@ -30,7 +31,8 @@ pub record Machine : Type 0 where
 abbrev pub start : Machine
 start = record { submitted = []; list = []; final = 0; acknowledged = []; settled = λ tag. 0 }
 
--- submitted batches in the order of their versions, above one and through another, of which none is in the list yet, and none twice
+-- what may come to the list's end: submitted batches, their versions rising above `low` through `high`, none in the
+-- list yet, none twice
 abbrev pub AreNew : Machine → ℕ → List Item → ℕ → Type 0
 AreNew a low [] high = low ≤ high
 AreNew a low (i ∷ items) high =
@@ -46,8 +48,9 @@ pub data Seen : Type 0 where
   Acknowledged : (name : Name) (version : ℕ) → Seen
   Answered : (reading : Reading) → Seen
 
--- the steps, each with what clients see of it, if anything: a client submits a batch, under a new name; the list grows at its end, or is final through a later version;
--- storage servers settle more of what is final; a batch of the list is acknowledged; a server answers a read at a version through which it is settled; nothing
+-- the steps, each with what clients see of it, if anything: a client submits a batch, under a new name; the list grows
+-- at its end, or is final through a later version; storage servers settle more of what is final; a batch of the list is
+-- acknowledged; a server answers a read at a version through which it is settled; nothing
 pub data IsStep (a : Machine) : Option Seen → Machine → Type 0 where
   Submits : (name : Name) (batch : List Mutation) → ((other : List Mutation) → Contains a.submitted (name, other) → ⊥) → IsStep a (Some (Taken name batch)) (record a { submitted = (name, batch) ∷ a.submitted })
   Appends : (items : List Item) (final : ℕ) → AreNew a a.final items final → IsStep a None (record a { list = a.list ++ items; final = final })

@@ -117,7 +117,7 @@ least_has v (r ∷ rs) x k = elim (Contains-cases r rs x k) [
   | inr later ↦ least_has (min v r.durable) rs x later
 ]
 
-least_of : (rs : List Reply) (x : Reply) → Contains rs x → least_durable rs ≤ x.durable
+pub least_of : (rs : List Reply) (x : Reply) → Contains rs x → least_durable rs ≤ x.durable
 least_of [] x k = absurd (Contains-none k)
 least_of (r ∷ rs) x k = elim (Contains-cases r rs x k) [
   | inl same ↦ (let low = least_start r.durable rs in let at = ap (λ (y : Reply). y.durable) same in omega (arith, low, at))

@@ -46,7 +46,7 @@ use Rattle.fr_run_outcomes.proofs.Lists.{in_range, map_has, flat_has}
 use Rattle.fr_run_outcomes.proofs.Asked.{IsSameBut, peek_takes}
 use Rattle.fr_run_outcomes.proofs.Counts.{among-from_Contains, below_all}
 use Rattle.fr_run_outcomes.proofs.Going.{IsHeard, stands, goes_further, still_up, rec_still_up, log_heard}
-use Rattle.fr_run_outcomes.proofs.Locking.{some_not_none}
+use Rattle.fr_run_outcomes.proofs.LockAnswers.{some_not_none}
 use Rattle.fr_run_outcomes.proofs.Copies.{IsSource, begins_same, of_replies, is_source}
 
 -- ---- an answer to a peek

@@ -15,7 +15,7 @@ use Rattle.fr_proxy.specs.Sequencer.{new_sequencer}
 use Rattle.fr_run_outcomes.specs.Once.{RequestHasOneNumber}
 
 -- a request that has a number is not above its proxy's last one
-counted_below : (ns : List Numbering) → AreCounted ns → (x : Numbering) → Contains ns x → x.request ≤ requests_in x.proxy ns
+pub counted_below : (ns : List Numbering) → AreCounted ns → (x : Numbering) → Contains ns x → x.request ≤ requests_in x.proxy ns
 counted_below [] all x k = absurd (Contains-none k)
 counted_below (n ∷ ns) (next, all) x k = elim (Contains-cases n ns x k) [
   | inl same ↦ subst (λ (y : Numbering). y.request ≤ requests_in y.proxy (n ∷ ns)) same (here n.proxy refl)

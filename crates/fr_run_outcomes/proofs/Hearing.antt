@@ -32,7 +32,7 @@ use Rattle.fr_run_headline.proofs.Tells.{push_is_reached}
 use Rattle.fr_run_headline.specs.Storages.{HearsAreTaken}
 use Rattle.fr_run_outcomes.specs.Going.{IsOwn}
 use Rattle.fr_run_outcomes.specs.Hearing.{HearsOn, MarkIsHeard}
-use Rattle.fr_run_outcomes.proofs.Locking.{some_not_none}
+use Rattle.fr_run_outcomes.proofs.LockAnswers.{some_not_none}
 
 -- ---- a log tells its mark
 

@@ -51,7 +51,7 @@ known_high : (v m k : ℕ) (rs : List Reply) → covers m k (map (λ (x : Reply)
 known_high v m k [] cov all = let d : false ≡ true = sym (none_cover m k) ∙ cov in absurd (cc)
 known_high v m k (r ∷ rs) cov all = known_from v (max 0 r.known) rs (let l = All-head (λ x. v ≤ x.known) r rs all in omega (arith, l))
 
-push_from : (v w : ℕ) (ps : List PushContent) → v ≤ w → v ≤ fold (λ x (p : PushContent). max x p.known) w ps
+pub push_from : (v w : ℕ) (ps : List PushContent) → v ≤ w → v ≤ fold (λ x (p : PushContent). max x p.known) w ps
 push_from v w [] l = l
 push_from v w (p ∷ ps) l = push_from v (max w p.known) ps (omega (arith, l))
 

@@ -73,7 +73,7 @@ of_after (StorageHeard y from u taken fault) e logs i k = inr k
 of_after (Gone who) e logs i k = elim (of_with who e logs i k) [ inl is ↦ inl (ap Gone is) | inr rest ↦ inr rest ]
 of_after (Crashed who) e logs i k = inr k
 
-gone_of_lost : (h : List Turn) (e i : ℕ) → Contains (lost_logs h e) i → Contains h (Gone (node.Log e i))
+pub gone_of_lost : (h : List Turn) (e i : ℕ) → Contains (lost_logs h e) i → Contains h (Gone (node.Log e i))
 gone_of_lost [] e i k = absurd (Contains-none k)
 gone_of_lost (t ∷ h) e i k = elim (of_after t e (lost_logs h e) i k) [
   | inl now ↦ subst (λ u. Contains (u ∷ h) (Gone (node.Log e i))) (sym now) (Contains-here (Gone (node.Log e i)) h)

@@ -136,13 +136,13 @@ reply_fair r p end fair = go (is_covered end) refl
 -- ---- what is heard
 
 -- what a tell of a cell is while the recoverer reads
-heed_reading : (r : RecState) (w : Word) (i : ℕ) (u : CellTell) → IsPromised r w i u → heed r w ≡ Promised i u
+pub heed_reading : (r : RecState) (w : Word) (i : ℕ) (u : CellTell) → IsPromised r w i u → heed r w ≡ Promised i u
 heed_reading r w i u k = ap (λ ph. heed_in ph r w) k.phase ∙ ap (heed_in Reading r) k.word
 
-heed_writing : (r : RecState) (w : Word) (i : ℕ) (u : CellTell) → IsVoted r w i u → heed r w ≡ Voted i u
+pub heed_writing : (r : RecState) (w : Word) (i : ℕ) (u : CellTell) → IsVoted r w i u → heed r w ≡ Voted i u
 heed_writing r w i u k = ap (λ ph. heed_in ph r w) k.phase ∙ ap (heed_in Writing r) k.word
 
-heed_locking : (r : RecState) (w : Word) (p : Parent) (end : EndState) (i d f : ℕ) (ps : List PoppedTag) → IsReplied r w p end i d f ps → heed r w ≡ Replied p end i d f ps
+pub heed_locking : (r : RecState) (w : Word) (p : Parent) (end : EndState) (i d f : ℕ) (ps : List PoppedTag) → IsReplied r w p end i d f ps → heed r w ≡ Replied p end i d f ps
 heed_locking r w p end i d f ps k =
     ap (λ ph. heed_in ph r w) k.phase
     ∙ ap (heed_in Locking r) k.word

@@ -54,7 +54,7 @@ use Rattle.fr_run_outcomes.specs.Marking.{MarksOn, MarkIsHeld}
 use Rattle.fr_run_outcomes.proofs.Lists.{map_has, left_has}
 use Rattle.fr_run_outcomes.proofs.Counts.{Contains-from_among}
 use Rattle.fr_run_outcomes.proofs.Going.{stands, log_still_up}
-use Rattle.fr_run_outcomes.proofs.Locking.{some_not_none}
+use Rattle.fr_run_outcomes.proofs.LockAnswers.{some_not_none}
 
 -- ---- the first push of a log is a mark
 

@@ -35,7 +35,7 @@ use Rattle.fr_run_outcomes.specs.Recovering.{HasRoom, RecoversOn, NoDeadEnd, Fil
 use Rattle.fr_run_outcomes.proofs.Going.{goes_further, still_up, rec_still_up, reads_stay}
 use Rattle.fr_run_outcomes.proofs.Lose.{still_lost}
 use Rattle.fr_run_outcomes.proofs.Copies.{IsOfReplies, made_from, of_replies}
-use Rattle.fr_run_outcomes.proofs.Locking.{other_last}
+use Rattle.fr_run_outcomes.proofs.LockAnswers.{other_last}
 use Rattle.fr_run_outcomes.proofs.Rooms.{room_left}
 
 -- a log that was never there is not gone

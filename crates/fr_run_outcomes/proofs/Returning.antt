@@ -61,7 +61,7 @@ use Rattle.fr_run_outcomes.proofs.Lists.{map_from, flat_from}
 use Rattle.fr_run_outcomes.proofs.Counts.{count_by-range, count_short}
 use Rattle.fr_run_outcomes.proofs.Going.{goes_further, still_up}
 use Rattle.fr_run_outcomes.proofs.Lose.{still_lost, none_lost}
-use Rattle.fr_run_outcomes.proofs.Pulling.{left_latest, left_few}
+use Rattle.fr_run_outcomes.proofs.Left.{left_latest, left_few}
 use Rattle.fr_run_outcomes.proofs.Recovering.{no_log_gone, none_there}
 
 -- what holds of the nodes

@@ -62,7 +62,7 @@ by_server c h t (Peek x tag after most) k = tt
 by_server c h t (MarkAsked x) k = tt
 by_server c h t (Pop x tag through) k = tt
 
-no_server : (c : Config) (h : List Turn) (x : ℕ) (a : LogAsk) → StorageMayAsk c h (node.Recoverer x) a → ⊥
+pub no_server : (c : Config) (h : List Turn) (x : ℕ) (a : LogAsk) → StorageMayAsk c h (node.Recoverer x) a → ⊥
 no_server c h x (Seed s) k = k
 no_server c h x (Push p) k = k
 no_server c h x (Lock y) k = k
@@ -142,7 +142,7 @@ durable_left laws changes accounted c b h later k e i other = subst (λ l. durab
 
 -- ---- room
 
-moved : (n d x : ℕ) → x ≡ d → d + 1 < n → x + 1 < n
+pub moved : (n d x : ℕ) → x ≡ d → d + 1 < n → x + 1 < n
 moved n d x same less = omega (arith, same, less)
 
 pub room_left : Laws → AskIsChange → SentIsAccounted → (c : Config) (b : ℕ) (h later : List Turn) → GoesOn c b h later → (s : CoordinatedState) (g : LogGeneration) → (g.epoch ≡ b → ⊥) → HasRoomIn c h s g → HasRoomIn c later s g

@@ -11,6 +11,8 @@ pub mod Hearing
 pub mod Marking
 pub mod Pulling
 pub mod Returning
+pub mod Full
+pub mod Uncontested
 pub mod Losses
 pub mod Snapshots
 pub mod Reads

@@ -3,6 +3,7 @@
 //! lost, nothing crashes, no other ballot begins and no batch is submitted. So what the law concludes comes of what is
 //! there at the start, and not of what others do on the way.
 ghost use Rattle.fr_run_outcomes.specs.Copying.{CopyingEnds, SeedingEnds};
+ghost use Rattle.fr_run_outcomes.specs.Full.{FullIsNoDeadEnd, MarkedIsPopped, TooManyIsUnpopped};
 ghost use Rattle.fr_run_outcomes.specs.Hearing.{MarkIsHeard};
 ghost use Rattle.fr_run_outcomes.specs.Locking.{LockingEnds};
 ghost use Rattle.fr_run_outcomes.specs.Marking.{MarkIsHeld};
@@ -11,14 +12,16 @@ ghost use Rattle.fr_run_outcomes.specs.Pulling.{ChosenIsServed, CommittedIsPulle
 ghost use Rattle.fr_run_outcomes.specs.Reading.{ReadingEnds};
 ghost use Rattle.fr_run_outcomes.specs.Recovering.{NoDeadEnd, RecoveryEnds};
 ghost use Rattle.fr_run_outcomes.specs.Returning.{LowIsUnlocked, ServiceReturns, ServiceReturnsOrIsFull};
+ghost use Rattle.fr_run_outcomes.specs.Uncontested.{UncontestedHasNoRoom};
 ghost use Rattle.fr_run_outcomes.specs.Writing.{WritingEnds};
 
 use crate::laws::lost_law;
-use fr_log::laws::change_law;
+use fr_log::laws::{change_law, pop_law};
 use fr_run::laws::{ask_law, cells_law, chosen_law, line_law, node_laws, parents_law, states_law};
 use fr_run_headline::contents::contents_law;
-use fr_run_headline::laws::{follow_law, headline_law, let_go_law, lower_laws};
+use fr_run_headline::laws::{follow_law, headline_law, let_go_law, lower_laws, order_law};
 use fr_run_headline::versions::{logs_law, seeded_law, told_law};
+use fr_state::drop_law;
 use fr_storage::position_law;
 use fr_tags::laws::cover_law;
 
@@ -167,4 +170,43 @@ pub fn return_law()
     seeded_law();
     recovery_law();
     pulling_law();
+}
+
+/// A full list is no dead end where a log of its last generation is up and has the epoch's mark. Take the premises of
+/// [`return_law`], with such a log and a version for the next mark in place of room. First storage servers and the logs
+/// that they ask take turns alone: each server hears the mark, pulls what is committed, and has each log of that
+/// generation that is up pop all that is before it. Then the ballot drops all generations but the last one, is chosen and
+/// comes to serve, however many generations the list had. And a recoverer that is lost as `TooMany` read a full list, and
+/// some tag was not shown to it as popped so far.
+pub fn full_law()
+    ensures popped { MarkedIsPopped }
+    ensures left { FullIsNoDeadEnd }
+    ensures unpopped { TooManyIsUnpopped }
+{
+    lower_laws();
+    change_law();
+    pop_law();
+    drop_law();
+    ask_law();
+    cells_law();
+    chosen_law();
+    parents_law();
+    seeded_law();
+    follow_law();
+    let_go_law();
+    order_law();
+    position_law();
+    cover_law();
+    pulling_law();
+    return_law();
+}
+
+/// If no cell promised more than a ballot when that began, and none was asked for a greater one since, its recoverer is
+/// lost for want of room alone. It is never outballoted, whatever else is lost, late or repeated.
+pub fn uncontested_law()
+    ensures { UncontestedHasNoRoom }
+{
+    node_laws();
+    ask_law();
+    lost_law();
 }

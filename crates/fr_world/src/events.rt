@@ -18,6 +18,7 @@ pub(crate) fn why_not_up(nodes: &Nodes, node: &NodeId) -> Option<NotEnabled>
     requires { IsKept nodes.now }
     ensures { result ≡ why_not_up (state_of nodes.now) node.now }
 {
+    // Both are read before either is judged, since a refusal has one order: not there, then gone (invariant 3).
     let there = nodes.is_there(*node);
     let gone = nodes.is_gone(*node);
     if !there {

@@ -28,9 +28,11 @@ impl World {
         ensures memory { IfErr result (λ first. first.1 ≡ NotEnabled.Memory → IsAtStartOrCanHappen config events.items first.0) }
     {
         let Ok(mut world) = World::start(alloc, config) else {
+            // Before any event, so it comes with the number of the first.
             return Err((0, NotEnabled::Memory));
         };
         for (number, event) in events.into_iter().enumerate() {
+            // By value: a refused event ends the replay, so the world need not be kept for it.
             match world.step_owned(alloc, event) {
                 Ok((next, _)) => world = next,
                 Err(why) => return Err((number, why)),

@@ -35,6 +35,7 @@ pub(crate) fn step(
     ensures stays { OnOk result (IsKept nodes.new) }
     ensures keeps { keeps ≡ true → IsKept nodes.new }
 {
+    // Before the event is taken apart, because afterwards its request or reply is moved (invariant 7).
     get_ready(alloc, nodes, &event);
     happen(alloc, nodes, keeps, event)
 }
@@ -57,6 +58,7 @@ pub(crate) fn step_safely(
     ensures grows { IsGrownFrom (state_of nodes.new).config (state_of nodes.old).turns (state_of nodes.new).turns }
 {
     safety_law();
+    // Kept nodes: after a refusal the caller goes on with them (invariant 3).
     step(alloc, nodes, true, event)
 }
 
@@ -67,7 +69,9 @@ fn get_ready(alloc: Global, nodes: &mut Nodes, event: &Event)
     ensures same { state_of nodes.new ≡ state_of nodes.old }
     ensures stays { IsKept nodes.new }
 {
+    // Each event asks whether its node is gone, so these are always entered (invariant 7).
     enter_gone(alloc, nodes);
+    // A run delivers most messages soon, so most events need no entering of what came before them.
     if !is_lately_given(nodes, event) {
         catch_up(alloc, nodes);
     }
@@ -79,6 +83,7 @@ fn enter_gone(alloc: Global, nodes: &mut Nodes)
     ensures same { state_of nodes.new ≡ state_of nodes.old }
     ensures stays { IsKept nodes.new }
 {
+    // Without memory they are found by a walk, and the answer is the same (invariant 7).
     let _ = nodes.turns.enter_gone(alloc);
 }
 
@@ -97,11 +102,11 @@ fn is_lately_given(nodes: &Nodes, event: &Event) -> bool {
     match event {
         Event::Deliver { from, to, ask } => nodes.turns.was_lately_sent(from, to, ask),
         Event::Hear { by, from, tell, .. } => nodes.turns.was_lately_told(from, by, tell),
+        // Other events need no message.
         _ => true,
     }
 }
 
-/// Makes the turn that an event is.
 fn happen(alloc: Global, nodes: &mut Nodes, keeps: bool, event: Event) -> Result<Answer, NotEnabled>
     requires kept { IsKept nodes.old }
     ensures turn { Steps (state_of nodes.old) (state_of nodes.new) event result }
@@ -112,6 +117,7 @@ fn happen(alloc: Global, nodes: &mut Nodes, keeps: bool, event: Event) -> Result
 {
     let _within = event.node();
     match event {
+        // One arm an event, and each makes at most one turn (invariant 2).
         Event::Begin { ballot, shape } => begun(alloc, nodes, ballot, shape),
         Event::Deliver { from, to, ask } => delivered(alloc, nodes, from, to, ask),
         Event::Hear {
@@ -156,6 +162,7 @@ fn heard(
             heard_by_recoverer(alloc, nodes, ballot, from, tell, taken)
         }
         NodeId::Storage { tag } => { heard_by_storage(alloc, nodes, keeps, tag, from, tell, taken) }
+        // Cells, logs and sequencers send no requests, so they are given no replies (invariant 4).
         _ => Err(why_unheard(nodes, &by)),
     }
 }

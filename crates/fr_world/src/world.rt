@@ -80,6 +80,8 @@ impl World {
         ensures safe { IsSafe self.new.config self.new.turns }
         ensures grows { IsGrownFrom self.new.config self.old.turns self.new.turns }
     {
+        // What a hear of a storage server changes is made on a copy of it, so that running out of memory leaves the
+        // world as it was (invariant 3).
         step_safely(alloc, &mut self.nodes, event)
     }
 
@@ -91,6 +93,7 @@ impl World {
         ensures refused { RefusesTurn (next_turn self event) result }
     {
         let mut nodes = self.nodes;
+        // `false`: nothing is copied. A refusal drops the nodes, so nobody sees what is left of them.
         let answer = step(alloc, &mut nodes, false, event)?;
         Ok((World { nodes }, answer))
     }
@@ -106,14 +109,15 @@ impl World {
         is_safe(&self.nodes);
     }
 
-    /// What it started from.
+    /// The config that it started from; it never changes.
     pub fn config(&self) -> &Config
         ensures { result.now ≡ self.now.config }
     {
         &self.nodes.config
     }
 
-    /// Whether a node is there.
+    /// Whether a node is there: a log from the first seed on that its recoverer may send, a sequencer and a proxy
+    /// once the epoch is chosen. A node that is gone is there still.
     pub fn is_there(&self, node: NodeId) -> bool
         ensures { result ≡ nodes.is_there self.now.config self.now.turns node }
     {

@@ -21,6 +21,8 @@ fn is_used(nodes: &Nodes, ballot: Ballot) -> bool
     ensures { result ≡ is_used (state_of nodes.now).config (state_of nodes.now).turns ballot }
 {
     let number = ballot.get();
+    // 0 is the ballot of a cell that was never asked, and 257 that of the start, which no recoverer chose (invariant
+    // 5).
     nodes.recoverers.get(&ballot).is_some() || number == start::FIRST || number == 0
 }
 
@@ -39,6 +41,7 @@ pub(crate) fn begun(
     ensures stays { IsKept nodes.new }
 {
     step_law();
+    // The one place at which a recoverer comes to be, so the premise is kept here (invariant 5).
     if is_used(nodes, ballot) {
         return Err(NotEnabled::BallotUsed);
     }
@@ -46,7 +49,7 @@ pub(crate) fn begun(
     Ok(Answer::Done)
 }
 
-/// A tell comes to a recoverer.
+/// A recoverer hears a reply, if it is up and was given it.
 pub(crate) fn heard_by_recoverer(
     alloc: Global,
     nodes: &mut Nodes,
@@ -66,7 +69,9 @@ pub(crate) fn heard_by_recoverer(
     if let Some(why) = why_not_up(nodes, &by) {
         return Err(why);
     }
+    // After the test that it is up: whatever was told to a node that is gone, it hears nothing (invariants 3 and 5).
     let told = nodes.turns.was_told(&from, &by, &tell);
+    // A hear that broke off is a storage server's: others have no store that could refuse a call.
     if !told || taken.is_some() {
         return Err(NotEnabled::NeverSent);
     }

@@ -40,17 +40,22 @@ pub(crate) fn delivered(
     ensures stays { IsKept nodes.new }
 {
     step_law();
+    // The node whose turn it is comes first, since without it there is nothing to say of the request (invariant 3).
     if let Some(why) = why_not_up(nodes, &to) {
         return Err(why);
     }
+    // Asked before the request is moved into its turn (invariant 4).
     let sent = nodes.turns.was_sent(&from, &to, &ask);
     match ask {
         Ask::Cell(ask) => match to {
             NodeId::Cell { index } => to_cell(alloc, nodes, from, index, ask, sent),
+            // A request of another kind than the node's was sent by nobody.
             _ => Err(NotEnabled::NeverSent),
         },
         Ask::Log(ask) => match to {
             NodeId::Log { epoch, index } => {
+                // Storage servers ask in no turn of their own, since asking changes nothing of them. What they may
+                // ask is judged by their state at this moment: a Pop by the floor that they have now (invariant 4).
                 let may = sent || storage_may_ask(&nodes.config, &nodes.storages, &from, &ask);
                 to_log(alloc, nodes, from, LogId { epoch, index }, ask, may)
             }
@@ -86,6 +91,7 @@ fn to_cell(
     ensures err { OnErr result (state_of nodes.new ≡ state_of nodes.old) }
     ensures stays { IsKept nodes.new }
 {
+    // Judged here and not by the caller, so that the contract of a turn speaks of the request alone (invariant 4).
     if !sent {
         return Err(NotEnabled::NeverSent);
     }
@@ -120,6 +126,7 @@ fn to_log(
     if !sent {
         return Err(NotEnabled::NeverSent);
     }
+    // The log's own step, so its reply and its next state are those of fr_log (invariant 1).
     let told = nodes.ask_log(alloc, from, id, ask)?;
     Ok(Answer::Told(Tell::Log(told)))
 }

@@ -24,8 +24,11 @@ pub(crate) fn crashed(nodes: &mut Nodes, node: NodeId) -> Result<Answer, NotEnab
     }
     match node {
         NodeId::Sequencer { .. } | NodeId::Proxy { .. } | NodeId::Recoverer { .. } => {
+            // No disk, so nothing comes back (invariant 6).
             nodes.leave(node)?;
         }
+        // A turn that changes nothing is still one: a journal has the crash, and a run that lacked it would differ
+        // (invariant 1).
         NodeId::Cell { .. } | NodeId::Log { .. } | NodeId::Storage { .. } => nodes.crash(node)?,
     }
     Ok(Answer::Done)
@@ -44,6 +47,7 @@ pub(crate) fn lost(nodes: &mut Nodes, log: LogId) -> Result<Answer, NotEnabled>
         epoch: log.epoch,
         index: log.index,
     };
+    // A log that is lost cannot be lost again: it is gone (invariant 5).
     if let Some(why) = why_not_up(nodes, &node) {
         return Err(why);
     }

@@ -39,6 +39,7 @@ pub(crate) fn submitted(
     if let Some(why) = why_not_up(nodes, &by) {
         return Err(why);
     }
+    // Asked before the batch is moved in, so that a refusal changes nothing (invariant 3).
     if let Some(fault) = nodes.submit_fault(epoch, proxy) {
         return Err(not_taken(fault));
     }
@@ -46,7 +47,7 @@ pub(crate) fn submitted(
     Ok(Answer::Done)
 }
 
-/// A tell comes to a proxy.
+/// A proxy hears a reply, if it is up and was given it.
 pub(crate) fn heard_by_proxy(
     alloc: Global,
     nodes: &mut Nodes,
@@ -71,6 +72,7 @@ pub(crate) fn heard_by_proxy(
         return Err(why);
     }
     let told = nodes.turns.was_told(&from, &by, &tell);
+    // A proxy has no store, so its hear cannot break off.
     if !told || taken.is_some() {
         return Err(NotEnabled::NeverSent);
     }

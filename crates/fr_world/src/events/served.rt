@@ -42,6 +42,8 @@ pub(crate) fn heard_by_storage(
         return Err(why);
     }
     let teller = from;
+    // Before `taken` is looked at: a break of a reply that was never given is refused as NeverSent too (invariants 3
+    // and 4).
     if !nodes.was_told(teller, by, &tell) {
         return Err(NotEnabled::NeverSent);
     }
@@ -70,6 +72,7 @@ fn hear_whole(
     ensures keeps { keeps ≡ true → IsKept nodes.new }
     ensures stays { OnOk result (IsKept nodes.new) }
 {
+    // A refusal of the server is an answer of the event, and the turn is made: late replies are part of a run.
     match nodes.tell_storage(alloc, keeps, tag, from, tell)? {
         Some(fault) => Ok(Answer::Refused(fault)),
         None => Ok(Answer::Done),
@@ -98,6 +101,7 @@ fn hear_in_part(
     ensures keeps { keeps ≡ true → IsKept nodes.new }
     ensures stays { OnOk result (IsKept nodes.new) }
 {
+    // Asked first, because the call would make changes of which only some might be allowed (invariant 3).
     if !nodes.may_break(tag, &from, &tell, version) {
         return Err(NotEnabled::NeverSent);
     }

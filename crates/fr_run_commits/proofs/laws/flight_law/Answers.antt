@@ -1,5 +1,6 @@
 use Rattle.fr_run_commits.proofs.Committing.{CommitRules}
-use Rattle.fr_run_commits.proofs.Landing.{FlightRules, flight_lands, commits_go_on}
+use Rattle.fr_run_commits.proofs.Landing.{flight_lands, commits_go_on}
+use Rattle.fr_run_commits.proofs.LandingPush.{FlightRules}
 use Rattle.fr_run_commits.proofs.laws.flight_law.Goals as goal
 
 pub returns : goal.returns

@@ -1,4 +1,5 @@
-use Rattle.fr_run_outcomes.proofs.Locking.{LockRules, locking_ends}
+use Rattle.fr_run_outcomes.proofs.LockAnswers.{LockRules}
+use Rattle.fr_run_outcomes.proofs.Locking.{locking_ends}
 use Rattle.fr_run_outcomes.proofs.progress.locking_law.Goals as goal
 
 pub returns : goal.returns
