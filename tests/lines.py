@@ -26,6 +26,18 @@ def entry(stamp, name, what):
     return {"act": {name: what}, "stamp": stamp}
 
 
+def stand(last):
+    """Where a node stands, as an answer says it that was not asked for all: a storage server leaves its rows out."""
+    its = last.get("storage")
+    return {"stands": {"storage": {name: its[name] for name in its if name != "rows"}}} if its else {"last": last}
+
+
+def whole(row, last):
+    """The same line, asking for all of the node's state."""
+    given, answer = row
+    return given | {"last": True}, {name: answer[name] for name in answer if name != "stands"} | {"last": last}
+
+
 def asked(at, by, ask, stamp, tell, last):
     """A node is asked something."""
     given = {"type": "ask", "at": at, "from": by, "ask": ask}
@@ -37,7 +49,7 @@ def heard(at, by, tell, stamp, last, wants=None, outcome=None):
     """A node hears something. A storage server does not say what it wants."""
     given = {"type": "hear", "at": at, "from": by, "tell": tell}
     its = entry(stamp, "heard", {"from": by, "outcome": outcome, "taken": None, "tell": tell})
-    return given, {"type": "hear_ok", "entry": its, "last": last} | ({} if wants is None else {"wants": wants})
+    return given, {"type": "hear_ok", "entry": its} | stand(last) | ({} if wants is None else {"wants": wants})
 
 
 def wanted(turn, wants, **newest):
@@ -46,7 +58,7 @@ def wanted(turn, wants, **newest):
 
 
 def begins(node, last):
-    return {"type": "init"}, {"type": "init_ok", "last": last, "node": node}
+    return {"type": "init"}, {"type": "init_ok", "node": node} | stand(last)
 
 
 def is_last(last):
@@ -132,6 +144,10 @@ def lock(epoch):
     return {"log": {"lock": {"epoch": epoch}}}
 
 
+def without(name, ask):
+    return {"log": {"push": {its: value for its, value in ask["log"]["push"].items() if its != name}}}
+
+
 UNSEEDED = {"log": {"durable": 0, "known": 0, "seeded": False, "stopped": False}}
 LAST = {"popped": [[0, 11]]}
 MARK_ASKED = {"log": {"mark_asked": {"epoch": 513}}}
@@ -158,6 +174,7 @@ LOGS = [
     asked(23, STORAGE, MARK_ASKED, 24, told("marked", state=STATE), log_last(14, 11, True, **LAST)),
     fault({"type": "submit", "at": 30, "batch": [], "step": 1}, 10),
     fault({"type": "ask", "at": 30, "from": STORAGE, "ask": read(513)}, 12),
+    fault({"type": "ask", "at": 30, "from": proxy(513), "ask": without("known", push(14, 15, 14))}, 12),
 ]
 
 # ---- a sequencer
@@ -313,6 +330,10 @@ STORAGES = [
     heard(20, log(513, 1), peeked(2, 4, 5, (4, ADD)), 21, stands(513, 5, 4, k61="0200")),
     wanted(2, asks(513, 0, 5, 4), epoch=513, logs=2),
     heard(22, log(513, 0), told("popped", through=4), 23, stands(513, 5, 4, k61="0200")),
+    whole(heard(23, log(513, 0), told("popped", through=4), 24, stands(513, 5, 4)), stands(513, 5, 4, k61="0200")),
+    whole(begins(STORAGE, stands(513, 5, 4)), stands(513, 5, 4, k61="0200")),
+    ({"type": "init", "last": False}, begins(STORAGE, stands(513, 5, 4))[1]),
+    fault({"type": "init", "last": 1}, 12, "last"),
     is_last(stands(513, 5, 4, k61="0200")),
     fault({"type": "ask", "at": 30, "from": RECOVERER, "ask": PEEK}, 10),
 ]
@@ -369,13 +390,13 @@ LAST_SHARD = [fault(reads("6cff", 0), 14, "NotMine"), has("6d", 0, None), has("f
 
 def crashed(at, stamp, last):
     """A node that was started again, with no hear under way."""
-    return {"type": "back", "at": at}, {"type": "back_ok", "entries": [entry(stamp, "crashed", {})], "last": last}
+    return {"type": "back", "at": at}, {"type": "back_ok", "entries": [entry(stamp, "crashed", {})]} | stand(last)
 
 
 def hearing(at, by, tell, version, last, *entries):
     """A storage server that was started again, with a hear under way."""
     given_line = {"type": "back", "at": at, "hearing": {"from": by, "tell": tell, "version": version}}
-    return given_line, {"type": "back_ok", "entries": list(entries), "last": last}
+    return given_line, {"type": "back_ok", "entries": list(entries)} | stand(last)
 
 
 def of_hear(stamp, by, tell, taken=None):
@@ -426,7 +447,10 @@ STORAGES_AGAIN = [
         hearing(7, log(513, 0), CUT, 3, AFTER, of_hear(8, log(513, 0), CUT), entry(9, "crashed", {})),
         heard(20, log(513, 1), peeked(2, 4, 5, (4, ADD)), 21, stands(513, 5, 4, k61="0200")),
     ],
-    [begins(STORAGE, stands(513, 5, 4, k61="0200")), crashed(30, 31, stands(513, 5, 4, k61="0200"))],
+    [
+        begins(STORAGE, stands(513, 5, 4, k61="0200")),
+        whole(crashed(30, 31, stands(513, 5, 4)), stands(513, 5, 4, k61="0200")),
+    ],
 ]
 # (hears that a kill broke off are made by hears of less: a foreign node knows that they did not begin)
 AT_CUT = peeked(0, 2, 3, (2, BATCH), (3, SET))

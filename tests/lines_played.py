@@ -2,6 +2,7 @@
 
 import json
 import os
+import resource
 import subprocess
 import sys
 import tempfile
@@ -91,6 +92,40 @@ def again(checks, command, is_exact, scripts):
             words_of = with_config([*command, *words.split(), "--dir", f"{room}/files"], config, room)
             for rows in processes:
                 played(checks, title, words_of, rows, is_exact)
+
+
+# ---- on a full disk
+
+
+def full(checks, command):
+    """Cells and logs whose file has room for a part of a script, and mostly for a part of a line at its end. Each ends
+    with status 3 once there is no room, and at its next start it stands where it last said that it stood."""
+    for title in ("a cell", "a log"):
+        words, config, rows = lines.SCRIPTS[title]
+        its = [(number, body) for number, (body, _) in enumerate(rows) if body["type"] == "ask"]
+        asks = [line(lines.NAMES[title], number, body) for number, body in its]
+        with tempfile.TemporaryDirectory() as room:
+            words = with_config([*command, *words.split()], config, room)
+            size = filled(checks, words, title, f"{room}/whole", asks, None)
+            for part in range(1, 9):
+                filled(checks, words, title, f"{room}/{part}", asks, size * part // 9)
+
+
+def filled(checks, words, title, folder, asks, most):
+    """Gives a node some lines, whose file may have so many bytes, and starts it again. Returns how many it has."""
+    os.mkdir(folder)
+    words = [*words, "--dir", folder]
+    limit = (lambda: resource.setrlimit(resource.RLIMIT_FSIZE, (most, most))) if most else None
+    ran = subprocess.run(words, input=b"\n".join(asks) + b"\n", capture_output=True, timeout=PATIENCE, preexec_fn=limit)
+    (name,) = os.listdir(folder)
+    size = os.path.getsize(f"{folder}/{name}")
+    lasts = [it["last"] for it in (json.loads(it)["body"] for it in ran.stdout.splitlines()) if "last" in it]
+    found, end = answers(words, [line(lines.NAMES[title], 0, {"type": "init"})])
+    stands = [json.loads(it)["body"]["last"] for it in found]
+    is_so = ran.returncode == (3 if most else 0) and stands == (lasts[-1:] or stands) and end == (0, b"")
+    what = ("ended with", ran.returncode, lasts[-1:], "and is then", stands, end)
+    checks.check(is_so, title, "with room for", most, *what)
+    return size
 
 
 # ---- drawn

@@ -20,7 +20,7 @@ LOG = ["log", "--epoch", "513", "--index", "0", "--logs", "4", "--degree", "2"]
 STORAGE = ["storage", "--tag", "0", "--config"]
 NO_FILE = "no file: its folder is missing, or it is no plain file of ours, or a database's"
 BUSY, BROKEN, FAILED = "a file is in use", "a file is none of such a node", "a file failed"
-INIT = {"type": "init"}
+INIT = {"type": "init", "last": True}
 
 
 class Files:
@@ -200,7 +200,7 @@ NOT_BEGUN = "nothing of it"
 
 
 def hear(by, tell):
-    return {"type": "hear", "at": 9, "from": by, "tell": tell}
+    return {"type": "hear", "at": 9, "from": by, "tell": tell, "last": True}
 
 
 def sweeps():

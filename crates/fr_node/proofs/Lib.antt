@@ -1,3 +1,4 @@
 mod Served
 mod Asked
 mod Leads
+mod Courses

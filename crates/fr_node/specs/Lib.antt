@@ -1,4 +1,6 @@
 pub mod Kinds
+pub mod Stands
+pub mod Courses
 pub mod Faults
 pub mod Turns
 pub mod Passive

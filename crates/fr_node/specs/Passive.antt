@@ -51,6 +51,15 @@ abbrev pub passive_refusal : {A : Type 0} → (Ask → Option A) → List Entry 
 passive_refusal unwrapped entries at (turn.Ask from ask) = ask_refusal (unwrapped ask) (are_spent entries at)
 passive_refusal unwrapped entries at t = Some refusal.NotTaken
 
+-- whether a file lacks room for what a turn writes: for its ask, if that is one of the node's own
+abbrev pub lacks_room_for : {A : Type 0} → Option A → (A → Type 0) → Type 0
+lacks_room_for None LacksRoom = ⊥
+lacks_room_for (Some a) LacksRoom = LacksRoom a
+
+abbrev pub lacks_room : {A : Type 0} → (Ask → Option A) → (A → Type 0) → NodeTurn → Type 0
+lacks_room unwrapped LacksRoom (turn.Ask from ask) = lacks_room_for (unwrapped ask) LacksRoom
+lacks_room unwrapped LacksRoom t = ⊥
+
 -- a crash, and nothing else
 abbrev pub IsOnlyCrash : List Entry → Type 0
 IsOnlyCrash (e ∷ []) = e.act ≡ act.Crashed

@@ -37,19 +37,19 @@ IsBack at hearing (crash ∷ []) = (at < crash.stamp) × (crash.act ≡ act.Cras
 IsBack at hearing (heard ∷ crash ∷ []) = (at < heard.stamp) × ((heard.stamp < crash.stamp) × (IsOfHearing hearing heard.act × (crash.act ≡ act.Crashed)))
 IsBack at hearing entries = ⊥
 
--- a turn is refused by the reason that there is; if there is none, only if a file has no room
-abbrev pub Refuses : {A : Type 0} → Option TurnRefusal → Result A NodeTurnFault → Type 0
-Refuses (Some why) r = r ≡ Err (fault.Refused why)
-Refuses None (Ok a) = ⊤
-Refuses None (Err (fault.Refused why)) = why ≡ refusal.Full
-Refuses None (Err (fault.Crashed why)) = ⊤
+-- a turn is refused by the reason that there is; if there is none, only as full, and only if a file lacks room for what the turn writes
+abbrev pub Refuses : {A : Type 0} → Option TurnRefusal → Type 0 → Result A NodeTurnFault → Type 0
+Refuses (Some why) LacksRoom r = r ≡ Err (fault.Refused why)
+Refuses None LacksRoom (Ok a) = ⊤
+Refuses None LacksRoom (Err (fault.Refused why)) = (why ≡ refusal.Full) × LacksRoom
+Refuses None LacksRoom (Err (fault.Crashed why)) = ⊤
 
--- a read is refused by the reason that there is, and else by none
-abbrev pub RefusesRead : {A : Type 0} → Option TurnRefusal → Result A NodeTurnFault → Type 0
-RefusesRead (Some why) r = r ≡ Err (fault.Refused why)
-RefusesRead None (Ok a) = ⊤
-RefusesRead None (Err (fault.Refused why)) = ⊥
-RefusesRead None (Err (fault.Crashed why)) = ⊤
+-- what writes nothing to a file is refused by the reason that there is, and else by none
+abbrev pub RefusesFor : {A : Type 0} → Option TurnRefusal → Result A NodeTurnFault → Type 0
+RefusesFor (Some why) r = r ≡ Err (fault.Refused why)
+RefusesFor None (Ok a) = ⊤
+RefusesFor None (Err (fault.Refused why)) = ⊥
+RefusesFor None (Err (fault.Crashed why)) = ⊤
 
 -- what is so if a node can go on: if it answered, or refused
 abbrev pub UnlessCrashed : {A : Type 0} → Result A NodeTurnFault → Type 0 → Type 0

@@ -1,8 +1,10 @@
 //! Nodes that a process serves.
 ghost use Rattle.std.specs.Prelude.{◌≡◌, ◌++◌, true, IfOk, OnOk};
-ghost use Rattle.fr_node.specs.Turns.{IfCrashed, IfRefused, IsBack, IsTaken, Refuses, RefusesRead, UnlessCrashed};
+ghost use Rattle.fr_node.specs.Stands.{stand_of};
+ghost use Rattle.fr_node.specs.Turns.{IfCrashed, IfRefused, IsBack, IsTaken, Refuses, RefusesFor, UnlessCrashed};
 
 use crate::fault::NodeTurnFault;
+use crate::stand::{Stand, stand_from};
 use crate::turn::{Hearing, NodeTurn, Round};
 use crate::wants::Wants;
 use fr_ask::Last;
@@ -38,6 +40,9 @@ pub trait Acting {
     /// The reason why a turn is refused, above a stamp, if there is one.
     ghost refusal: { Self → ℕ → NodeTurn → Option TurnRefusal };
 
+    /// Whether a file lacks room for what a turn writes. A node without files never lacks it.
+    ghost LacksRoom: { Self → NodeTurn → Type 0 };
+
     /// The reason why it is not started again, above a stamp, if there is one.
     ghost back_refusal: { Self → ℕ → Option Hearing → Option TurnRefusal };
 
@@ -62,20 +67,21 @@ pub trait Acting {
         ensures { result ≡ node self.now };
 
     /// Takes a turn, above the stamp that the asker has seen, and answers what is entered. A turn that is refused
-    /// changes nothing that others see.
+    /// changes nothing that others see. It is refused for the reason of `refusal`, and else as `Full` alone, only if a
+    /// file lacks room for it.
     fn act(&mut self, alloc: Global, at: Stamp, turn: NodeTurn) -> Result<Entry, NodeTurnFault>
         requires works { works self.old ≡ true }
         ensures node { node self.new ≡ node self.old }
         ensures taken { IfOk result (λ entry. IsTaken (entries self.old) (entries self.new) at turn entry) }
         ensures works { UnlessCrashed result (works self.new ≡ true) }
-        ensures refused { Refuses (refusal self.old at turn) result }
+        ensures refused { Refuses (refusal self.old at turn) (LacksRoom self.old turn) result }
         ensures left { IfRefused result (entries self.new ≡ entries self.old) }
         ensures stands { IfRefused result (last_of self.new ≡ last_of self.old) }
         ensures crashed { IfCrashed result CanCrash };
 
     /// Enters that its process was killed and started again over its files, above the stamp that the asker has seen.
     /// `hearing` is the hear that was under way, if one was. It answers the entries: what it took of that hear, if it
-    /// took any, and that it crashed. Nothing else changes.
+    /// took any, and that it crashed. Nothing else changes, and nothing is written to a file: it is never `Full`.
     fn back(
         &mut self,
         alloc: Global,
@@ -88,7 +94,7 @@ pub trait Acting {
         ensures back { IfOk result (λ answered. IsBack at hearing answered.items) }
         ensures stands { UnlessCrashed result (last_of self.new ≡ last_of self.old) }
         ensures works { UnlessCrashed result (works self.new ≡ true) }
-        ensures refused { Refuses (back_refusal self.old at hearing) result }
+        ensures refused { RefusesFor (back_refusal self.old at hearing) result }
         ensures left { IfRefused result (entries self.new ≡ entries self.old) }
         ensures crashed { IfCrashed result CanCrash };
 
@@ -103,6 +109,22 @@ pub trait Acting {
         ensures crashed { IfCrashed result CanCrash }
         ensures never_refused { IfRefused result ⊥ };
 
+    /// Where it stands: its state, or, of a storage server that is not asked for its rows, all but these. Then it reads
+    /// no row.
+    fn stand(&mut self, alloc: Global, is_whole: bool) -> Result<Stand, NodeTurnFault>
+        requires works { works self.old ≡ true }
+        ensures node { node self.new ≡ node self.old }
+        ensures stand { IfOk result (λ stand. stand ≡ stand_of is_whole (last_of self.old)) }
+        ensures entries { entries self.new ≡ entries self.old }
+        ensures stands { OnOk result (last_of self.new ≡ last_of self.old) }
+        ensures works { OnOk result (works self.new ≡ true) }
+        ensures crashed { IfCrashed result CanCrash }
+        ensures never_refused { IfRefused result ⊥ }
+    {
+        let last = self.last(alloc)?;
+        Ok(stand_from(last, is_whole))
+    }
+
     /// The value that a key had at a version. It is no turn: nothing is entered, and nothing changes.
     fn read(
         &mut self,
@@ -116,7 +138,7 @@ pub trait Acting {
         ensures entries { entries self.new ≡ entries self.old }
         ensures stands { UnlessCrashed result (last_of self.new ≡ last_of self.old) }
         ensures works { UnlessCrashed result (works self.new ≡ true) }
-        ensures refused { RefusesRead (read_refusal self.old key.now version) result }
+        ensures refused { RefusesFor (read_refusal self.old key.now version) result }
         ensures crashed { IfCrashed result CanCrash };
 
     /// What it asks in a round.

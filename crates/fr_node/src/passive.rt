@@ -1,25 +1,26 @@
-//! Nodes that answer asks, each with its journal.
+//! Nodes that answer asks, each with its course.
 ghost use Rattle.std.specs.Prelude.{◌≡◌, ◌<◌, ◌++◌, ◌∷◌, [], false, true, IfOk, OnOk, OnErr};
 ghost use Rattle.fr_audit_journal.specs.declared.act.Act.{Act};
 ghost use Rattle.fr_audit_journal.specs.Replays.{Replays, ends_by_crash, steps};
 ghost use Rattle.fr_node.specs.declared.fault.Crash.{Crash};
 ghost use Rattle.fr_node.specs.Passive.{back_refusal, IsOnlyCrash};
-ghost use Rattle.fr_node.specs.Turns.{IfCrashed, IsBack, Refuses};
+ghost use Rattle.fr_node.specs.Turns.{IfCrashed, IsBack, RefusesFor};
 
 use crate::acting::Acting;
 use crate::answering::Answering;
+use crate::course::Course;
 use crate::fault::{NodeTurnFault, TurnRefusal};
 use crate::stamps::stamp_above;
 use crate::turn::{Hearing, NodeTurn, Round};
 use crate::wants::Wants;
 use fr_ask::{Last, Named};
-use fr_audit_journal::{Act, Entry, Housable, Journal};
+use fr_audit_journal::{Act, Entry, Housable};
 use fr_base::{Bytes, Machine, Memory, Node, NodeId, Stamp, Version};
 use std::alloc::Global;
 use std::marker::Model;
 use std::snapshot::Snapshot;
 
-/// A cell, a log or a sequencer, with its journal. Contracts see the node, its name, the state in which its process
+/// A cell, a log or a sequencer, with its course. Contracts see the node, its name, the state in which its process
 /// found it, and what it did since.
 #[derive(Drop)]
 pub struct Passive<N: Node>
@@ -27,7 +28,7 @@ where
     N::Plain: Answering,
 {
     node: N,
-    journal: Journal,
+    course: Course,
     first: Snapshot<N::Plain>,
     has_files: bool,
 }
@@ -42,11 +43,11 @@ where
 
     ghost Value = { PassiveState N N.Plain };
 
-    ghost view = { λ p. record { node = p.node; place = p.journal.node; first = p.first.value; entries = p.journal.entries; has_files = p.has_files } };
+    ghost view = { λ p. record { node = p.node; place = p.course.node; first = p.first.value; entries = p.course.entries; has_files = p.has_files } };
 
     ghost invariant = { λ p. IsServed (steps N.Plain.wrapped N.Plain.unwrapped N.Plain.wrapped_tell N.Plain.told N.Plain.after)
-        p.journal.node p.first.value p.journal.entries (N.state p.node)
-        × (p.has_files ≡ true → ends_by_crash p.journal.node ≡ false) };
+        p.course.node p.first.value p.course.entries (N.state p.node)
+        × (p.has_files ≡ true → ends_by_crash p.course.node ≡ false) };
 }
 
 impl<N: Node> Passive<N>
@@ -67,50 +68,50 @@ where
         let first = Snapshot::of(node.plain());
         Passive {
             node,
-            journal: Journal::new(alloc, id),
+            course: Course::new(alloc, id),
             first,
             has_files,
         }
     }
 
     /// What it did. It leads from the state in which its process found the node to the one in which it is.
-    pub fn journal(&self) -> &Journal
+    pub fn course(&self) -> &Course
         ensures place { result.now.node ≡ self.now.place }
         ensures entries { result.now.entries ≡ self.now.entries }
         ensures replays { Replays (steps N.Plain.wrapped N.Plain.unwrapped N.Plain.wrapped_tell N.Plain.told
             N.Plain.after) self.now.place self.now.first result.now.entries (N.state self.now.node) }
     {
-        let _rise = self.journal.entries();
-        &self.journal
+        let _rise = self.course.last_stamp();
+        &self.course
     }
 }
 
 /// Enters that a node crashed, and was started again over its files.
 fn started_again(
     alloc: Global,
-    journal: &mut Journal,
+    course: &mut Course,
     at: Stamp,
     has_files: bool,
     hearing: &Option<Hearing>,
 ) -> Result<Vec<Entry>, NodeTurnFault>
-    ensures place { journal.new.node ≡ journal.old.node }
-    ensures entries { IfOk result (λ answered. journal.new.entries ≡ journal.old.entries ++ answered.items) }
+    ensures place { course.new.node ≡ course.old.node }
+    ensures entries { IfOk result (λ answered. course.new.entries ≡ course.old.entries ++ answered.items) }
     ensures back { IfOk result (λ answered. IsBack at hearing.now answered.items) }
     ensures only { IfOk result (λ answered. IsOnlyCrash answered.items) }
     ensures files { OnOk result (has_files ≡ true) }
-    ensures refused { Refuses (back_refusal has_files journal.old.entries at hearing.now) result }
-    ensures err { OnErr result (journal.new.entries ≡ journal.old.entries) }
+    ensures refused { RefusesFor (back_refusal has_files course.old.entries at hearing.now) result }
+    ensures err { OnErr result (course.new.entries ≡ course.old.entries) }
     ensures crashed { IfCrashed result (λ why. why ≡ Crash.Memory) }
 {
     if !has_files || hearing.is_some() {
         return Err(NodeTurnFault::Refused(TurnRefusal::NotTaken));
     }
-    let Some(stamp) = stamp_above(journal, at) else {
+    let Some(stamp) = stamp_above(course, at) else {
         return Err(NodeTurnFault::Refused(TurnRefusal::StampsSpent));
     };
     let answered = only_crash(alloc, stamp)?;
-    journal.reserve()?;
-    journal.push_reserved(crash_at(stamp));
+    course.reserve()?;
+    course.enter(&crash_at(stamp));
     Ok(answered)
 }
 
@@ -140,7 +141,7 @@ where
 {
     ghost use Rattle.std.specs.Prelude.{[], not, None, Some};
     ghost use Rattle.fr_node.specs.declared.fault.TurnRefusal.TheVariants as refusal;
-    ghost use Rattle.fr_node.specs.Passive.{IsCrash, back_refusal, passive_refusal};
+    ghost use Rattle.fr_node.specs.Passive.{IsCrash, back_refusal, lacks_room, passive_refusal};
 
     ghost node = { λ p. p.place };
 
@@ -151,6 +152,8 @@ where
     ghost works = { λ p. not (N.is_failed p.node) };
 
     ghost refusal = { λ p at turn. passive_refusal N.Plain.unwrapped p.entries at turn };
+
+    ghost LacksRoom = { λ p turn. lacks_room N.Plain.unwrapped (N.LacksRoom p.node) turn };
 
     ghost back_refusal = { λ p at hearing. back_refusal p.has_files p.entries at hearing };
 
@@ -163,7 +166,7 @@ where
     ghost CanCrash = { IsCrash N.CanMeet };
 
     fn place(&self) -> NodeId {
-        self.journal.node()
+        self.course.node()
     }
 
     fn act(&mut self, alloc: Global, at: Stamp, turn: NodeTurn) -> Result<Entry, NodeTurnFault> {
@@ -176,10 +179,10 @@ where
         let Some(own) = N::Plain::unwrap(ask) else {
             return Err(NodeTurnFault::Refused(TurnRefusal::OtherAsk));
         };
-        let Some(stamp) = stamp_above(&self.journal, at) else {
+        let Some(stamp) = stamp_above(&self.course, at) else {
             return Err(NodeTurnFault::Refused(TurnRefusal::StampsSpent));
         };
-        self.journal.reserve()?;
+        self.course.reserve()?;
         let served = N::Plain::copy_ask(&own)?;
         let tell = self.node.serve(alloc, served)?;
         let entry = Entry {
@@ -190,9 +193,8 @@ where
                 tell: N::Plain::wrap_tell(tell),
             },
         };
-        let answered = entry.copy();
-        self.journal.push_reserved(entry);
-        Ok(answered?)
+        self.course.enter(&entry);
+        Ok(entry)
     }
 
     fn back(
@@ -201,7 +203,7 @@ where
         at: Stamp,
         hearing: Option<Hearing>,
     ) -> Result<Vec<Entry>, NodeTurnFault> {
-        started_again(alloc, &mut self.journal, at, self.has_files, &hearing)
+        started_again(alloc, &mut self.course, at, self.has_files, &hearing)
     }
 
     fn last(&mut self, alloc: Global) -> Result<Last, NodeTurnFault> {

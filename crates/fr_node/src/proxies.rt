@@ -1,15 +1,17 @@
-//! Proxies, each with its journal.
+//! Proxies, each with its course.
 ghost use Rattle.std.specs.Prelude.{◌≡◌, [], IfOk};
 ghost use Rattle.fr_base.specs.declared.place.NodeId.{NodeId};
 ghost use Rattle.fr_node.specs.Leads.{LeadsTo};
 ghost use Rattle.fr_node.specs.Nodes.{IsMemory, proxy_refusal};
 ghost use Rattle.fr_node.specs.Steps.{ProxyStep};
 ghost use Rattle.fr_node.specs.declared.turn.NodeTurn.{NodeTurn};
-ghost use Rattle.fr_node.specs.Turns.{IfCrashed, IfRefused, IsTaken, Refuses};
+ghost use Rattle.fr_node.specs.Turns.{IfCrashed, IfRefused, IsTaken, RefusesFor};
 
-use crate::{Acting, Hearing, NodeTurn, NodeTurnFault, Round, TurnRefusal, Wants, stamp_above};
+use crate::{
+    Acting, Course, Hearing, NodeTurn, NodeTurnFault, Round, TurnRefusal, Wants, stamp_above,
+};
 use fr_ask::{Last, Tell};
-use fr_audit_journal::{Act, Entry, Journal};
+use fr_audit_journal::{Act, Entry};
 use fr_base::{Bytes, NodeId, Stamp, Step, Version};
 use fr_mutation::Batch;
 use fr_proxy::{Proxy, SubmitFault};
@@ -18,12 +20,12 @@ use std::alloc::Global;
 use std::marker::Model;
 use std::snapshot::Snapshot;
 
-/// A proxy, with its journal. Contracts see the proxy, its name, its state when its process began, and what it did
+/// A proxy, with its course. Contracts see the proxy, its name, its state when its process began, and what it did
 /// since.
 #[derive(Drop)]
 pub struct ProxyNode {
     proxy: Proxy,
-    journal: Journal,
+    course: Course,
     first: Snapshot<Proxy>,
 }
 
@@ -35,9 +37,9 @@ impl Model for ProxyNode {
 
     ghost Value = { Active ProxyState };
 
-    ghost view = { λ p. record { state = p.proxy; place = p.journal.node; first = p.first.value; entries = p.journal.entries } };
+    ghost view = { λ p. record { state = p.proxy; place = p.course.node; first = p.first.value; entries = p.course.entries } };
 
-    ghost invariant = { λ p. LeadsTo ProxyStep p.first.value p.journal.entries p.proxy };
+    ghost invariant = { λ p. LeadsTo ProxyStep p.first.value p.course.entries p.proxy };
 }
 
 impl ProxyNode {
@@ -55,25 +57,25 @@ impl ProxyNode {
         let first = Snapshot::of(&proxy);
         ProxyNode {
             proxy,
-            journal: Journal::new(alloc, id),
+            course: Course::new(alloc, id),
             first,
         }
     }
 
     /// What it did. It leads from the proxy that the process began with to the one that it has.
-    pub fn journal(&self) -> &Journal
+    pub fn course(&self) -> &Course
         ensures place { result.now.node ≡ self.now.place }
         ensures entries { result.now.entries ≡ self.now.entries }
         ensures leads { LeadsTo ProxyStep self.now.first result.now.entries self.now.state }
     {
-        &self.journal
+        &self.course
     }
 
     /// Takes a batch, and enters it.
     fn submit(&mut self, at: Stamp, step: Step, batch: Batch) -> Result<Entry, NodeTurnFault>
         ensures place { self.new.place ≡ self.old.place }
         ensures taken { IfOk result (λ entry. IsTaken self.old.entries self.new.entries at (NodeTurn.Submit step batch) entry) }
-        ensures refused { Refuses (proxy_refusal self.old.state self.old.entries at (NodeTurn.Submit step batch)) result }
+        ensures refused { RefusesFor (proxy_refusal self.old.state self.old.entries at (NodeTurn.Submit step batch)) result }
         ensures left { IfRefused result (self.new ≡ self.old) }
         ensures crashed { IfCrashed result IsMemory }
     {
@@ -82,21 +84,20 @@ impl ProxyNode {
             Some(_) => return Err(NodeTurnFault::Refused(TurnRefusal::Over)),
             None => {}
         }
-        let Some(stamp) = stamp_above(&self.journal, at) else {
+        let Some(stamp) = stamp_above(&self.course, at) else {
             return Err(NodeTurnFault::Refused(TurnRefusal::StampsSpent));
         };
-        self.journal.reserve()?;
+        self.course.reserve()?;
         let taken = batch.copy()?;
         let entry = Entry {
             stamp,
             act: Act::Submitted { step, batch },
         };
-        let answered = entry.copy()?;
         let Ok(_asked) = self.proxy.submit(step, taken) else {
             unreachable!();
         };
-        self.journal.push_reserved(entry);
-        Ok(answered)
+        self.course.enter(&entry);
+        Ok(entry)
     }
 
     /// Hears what a node told it, and enters that.
@@ -109,14 +110,14 @@ impl ProxyNode {
     ) -> Result<Entry, NodeTurnFault>
         ensures place { self.new.place ≡ self.old.place }
         ensures taken { IfOk result (λ entry. IsTaken self.old.entries self.new.entries at (NodeTurn.Hear from tell) entry) }
-        ensures refused { Refuses (proxy_refusal self.old.state self.old.entries at (NodeTurn.Hear from tell)) result }
+        ensures refused { RefusesFor (proxy_refusal self.old.state self.old.entries at (NodeTurn.Hear from tell)) result }
         ensures left { IfRefused result (self.new ≡ self.old) }
         ensures crashed { IfCrashed result IsMemory }
     {
-        let Some(stamp) = stamp_above(&self.journal, at) else {
+        let Some(stamp) = stamp_above(&self.course, at) else {
             return Err(NodeTurnFault::Refused(TurnRefusal::StampsSpent));
         };
-        self.journal.reserve()?;
+        self.course.reserve()?;
         let (outcome, _asks) = self.proxy.hear(alloc, from, &tell)?;
         let entry = Entry {
             stamp,
@@ -128,7 +129,7 @@ impl ProxyNode {
             },
         };
         let answered = entry.copy();
-        self.journal.push_reserved(entry);
+        self.course.put(entry);
         Ok(answered?)
     }
 }
@@ -150,6 +151,8 @@ impl Acting for ProxyNode {
 
     ghost refusal = { λ p at turn. proxy_refusal p.state p.entries at turn };
 
+    ghost LacksRoom = { λ node turn. ⊥ };
+
     ghost back_refusal = { λ node at hearing. Some refusal.NotTaken };
 
     ghost wanted = { λ p turn newest. pending p.state };
@@ -163,7 +166,7 @@ impl Acting for ProxyNode {
     const TELLS_WANTS: bool = true;
 
     fn place(&self) -> NodeId {
-        self.journal.node()
+        self.course.node()
     }
 
     fn act(&mut self, alloc: Global, at: Stamp, turn: NodeTurn) -> Result<Entry, NodeTurnFault> {

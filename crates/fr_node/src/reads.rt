@@ -1,7 +1,7 @@
 //! What is read of a storage server: its state as others see it, and the value that a key had at a version.
 ghost use Rattle.std.specs.Prelude.{◌≡◌, false, IfErr, IfOk, OnOk};
 ghost use Rattle.fr_node.specs.Nodes.{IsStoreCrash, IsStoreEnd, storage_read_refusal};
-ghost use Rattle.fr_node.specs.Turns.{IfCrashed, RefusesRead, UnlessCrashed};
+ghost use Rattle.fr_node.specs.Turns.{IfCrashed, RefusesFor, UnlessCrashed};
 ghost use Rattle.fr_run.specs.Last as last;
 ghost use Rattle.fr_storage.specs.Server.{storage_of};
 ghost use Rattle.fr_undo.specs.Undo.{value_undone};
@@ -47,7 +47,7 @@ pub(crate) fn value_said<S: ShardStore>(
 ) -> Result<Option<Bytes>, NodeTurnFault>
     requires works { storage.old.failed ≡ false }
     ensures value { IfOk result (λ value. value ≡ value_undone (S.state storage.old.store) version key.now) }
-    ensures refused { RefusesRead (storage_read_refusal shard.now (storage_of S.state storage.old) key.now version) result }
+    ensures refused { RefusesFor (storage_read_refusal shard.now (storage_of S.state storage.old) key.now version) result }
     ensures stands { UnlessCrashed result (storage_of S.state storage.new ≡ storage_of S.state storage.old) }
     ensures tag { storage.new.tag ≡ storage.old.tag }
     ensures works { UnlessCrashed result (storage.new.failed ≡ false) }

@@ -1,4 +1,4 @@
-//! Recoverers, each with its journal.
+//! Recoverers, each with its course.
 ghost use Rattle.std.specs.Prelude.{◌≡◌, [], false, IfOk};
 ghost use Rattle.fr_audit_journal.specs.declared.act.Act.{Act};
 ghost use Rattle.fr_base.specs.declared.place.NodeId.{NodeId};
@@ -6,11 +6,14 @@ ghost use Rattle.fr_node.specs.Leads.{LeadsTo};
 ghost use Rattle.fr_node.specs.Nodes.{IsMemory, recoverer_refusal};
 ghost use Rattle.fr_node.specs.Steps.{RecStep};
 ghost use Rattle.fr_node.specs.declared.turn.NodeTurn.{NodeTurn};
-ghost use Rattle.fr_node.specs.Turns.{IfCrashed, IfRefused, IsTaken, Refuses};
+ghost use Rattle.fr_node.specs.Turns.{IfCrashed, IfRefused, IsTaken, RefusesFor};
 
-use crate::{Acting, Hearing, NodeTurn, NodeTurnFault, Round, TurnRefusal, Wants, stamp_above};
+use crate::course::heard_at;
+use crate::{
+    Acting, Course, Hearing, NodeTurn, NodeTurnFault, Round, TurnRefusal, Wants, stamp_above,
+};
 use fr_ask::{Last, Tell};
-use fr_audit_journal::{Act, Entry, Journal};
+use fr_audit_journal::{Act, Entry};
 use fr_base::{Bytes, NodeId, Shape, Stamp, Version};
 use fr_epoch::Recoverer;
 use fr_run::last_of_recoverer;
@@ -18,13 +21,13 @@ use std::alloc::Global;
 use std::marker::Model;
 use std::snapshot::Snapshot;
 
-/// A recoverer, the shape of the generation that it is to open, if it was given one, and its journal. Contracts see
+/// A recoverer, the shape of the generation that it is to open, if it was given one, and its course. Contracts see
 /// the recoverer and whether it began, its name, its state when its process began, and what it did since.
 #[derive(Drop)]
 pub struct RecovererNode {
     recoverer: Recoverer,
     shape: Option<Shape>,
-    journal: Journal,
+    course: Course,
     first: Snapshot<Recoverer>,
     has_begun: bool,
 }
@@ -39,13 +42,13 @@ impl Model for RecovererNode {
 
     ghost view = { λ r. record {
       state = record { recoverer = r.recoverer; has_begun = r.has_begun };
-      place = r.journal.node;
+      place = r.course.node;
       first = record { recoverer = r.first.value; has_begun = false };
-      entries = r.journal.entries;
+      entries = r.course.entries;
     } };
 
     ghost invariant = { λ r. (r.shape ≡ r.first.value.shape)
-        × LeadsTo (RecStep r.first.value.shape) (record { recoverer = r.first.value; has_begun = false }) r.journal.entries
+        × LeadsTo (RecStep r.first.value.shape) (record { recoverer = r.first.value; has_begun = false }) r.course.entries
         (record { recoverer = r.recoverer; has_begun = r.has_begun }) };
 }
 
@@ -64,39 +67,40 @@ impl RecovererNode {
         RecovererNode {
             recoverer,
             shape,
-            journal: Journal::new(alloc, NodeId::Recoverer { ballot }),
+            course: Course::new(alloc, NodeId::Recoverer { ballot }),
             first,
             has_begun: false,
         }
     }
 
     /// What it did. It leads from the recoverer that the process began with to the one that it has.
-    pub fn journal(&self) -> &Journal
+    pub fn course(&self) -> &Course
         ensures place { result.now.node ≡ self.now.place }
         ensures entries { result.now.entries ≡ self.now.entries }
         ensures leads { LeadsTo (RecStep self.now.first.recoverer.shape) self.now.first result.now.entries self.now.state }
     {
-        &self.journal
+        &self.course
     }
 
     /// Begins, and enters that.
     fn begin(&mut self, at: Stamp) -> Result<Entry, NodeTurnFault>
         ensures place { self.new.place ≡ self.old.place }
         ensures taken { IfOk result (λ entry. IsTaken self.old.entries self.new.entries at NodeTurn.Begin entry) }
-        ensures refused { Refuses (recoverer_refusal self.old.state.has_begun self.old.entries at NodeTurn.Begin) result }
+        ensures refused { RefusesFor (recoverer_refusal self.old.state.has_begun self.old.entries at NodeTurn.Begin) result }
         ensures left { IfRefused result (self.new ≡ self.old) }
         ensures crashed { IfCrashed result IsMemory }
     {
         if self.has_begun {
             return Err(NodeTurnFault::Refused(TurnRefusal::Begun));
         }
-        let Some(stamp) = stamp_above(&self.journal, at) else {
+        let Some(stamp) = stamp_above(&self.course, at) else {
             return Err(NodeTurnFault::Refused(TurnRefusal::StampsSpent));
         };
-        self.journal.reserve()?;
+        self.course.reserve()?;
         self.has_begun = true;
-        self.journal.push_reserved(begun_at(stamp, self.shape));
-        Ok(begun_at(stamp, self.shape))
+        let entry = begun_at(stamp, self.shape);
+        self.course.enter(&entry);
+        Ok(entry)
     }
 
     /// Hears what a node told it, and enters that.
@@ -109,31 +113,21 @@ impl RecovererNode {
     ) -> Result<Entry, NodeTurnFault>
         ensures place { self.new.place ≡ self.old.place }
         ensures taken { IfOk result (λ entry. IsTaken self.old.entries self.new.entries at (NodeTurn.Hear from tell) entry) }
-        ensures refused { Refuses (recoverer_refusal self.old.state.has_begun self.old.entries at (NodeTurn.Hear from tell)) result }
+        ensures refused { RefusesFor (recoverer_refusal self.old.state.has_begun self.old.entries at (NodeTurn.Hear from tell)) result }
         ensures left { IfRefused result (self.new ≡ self.old) }
         ensures crashed { IfCrashed result IsMemory }
     {
         if !self.has_begun {
             return Err(NodeTurnFault::Refused(TurnRefusal::NotBegun));
         }
-        let Some(stamp) = stamp_above(&self.journal, at) else {
+        let Some(stamp) = stamp_above(&self.course, at) else {
             return Err(NodeTurnFault::Refused(TurnRefusal::StampsSpent));
         };
-        self.journal.reserve()?;
-        let heard = tell.copy()?;
-        let _asks = self.recoverer.hear(alloc, from, heard)?;
-        let entry = Entry {
-            stamp,
-            act: Act::Heard {
-                from,
-                tell,
-                taken: None,
-                outcome: None,
-            },
-        };
-        let answered = entry.copy();
-        self.journal.push_reserved(entry);
-        Ok(answered?)
+        self.course.reserve()?;
+        let entry = heard_at(stamp, from, tell.copy()?);
+        let _asks = self.recoverer.hear(alloc, from, tell)?;
+        self.course.enter(&entry);
+        Ok(entry)
     }
 }
 
@@ -164,6 +158,8 @@ impl Acting for RecovererNode {
 
     ghost refusal = { λ r at turn. recoverer_refusal r.state.has_begun r.entries at turn };
 
+    ghost LacksRoom = { λ node turn. ⊥ };
+
     ghost back_refusal = { λ node at hearing. Some refusal.NotTaken };
 
     ghost wanted = { λ r turn newest. if r.state.has_begun then pending r.state.recoverer else [] };
@@ -177,7 +173,7 @@ impl Acting for RecovererNode {
     const TELLS_WANTS: bool = true;
 
     fn place(&self) -> NodeId {
-        self.journal.node()
+        self.course.node()
     }
 
     fn act(&mut self, alloc: Global, at: Stamp, turn: NodeTurn) -> Result<Entry, NodeTurnFault> {

@@ -1,11 +1,12 @@
 //! What a process is asked of its node, and what it answers.
 ghost use Rattle.std.specs.Prelude.{◌≡◌, true, None, IfOk, IfSome};
 ghost use Rattle.fr_node.specs.declared.reply.NodeRequest.{NodeRequest};
-ghost use Rattle.fr_node.specs.Answers.{IsAnswer, order_refusal};
+ghost use Rattle.fr_node.specs.Answers.{IsAnswer, order_lacks, order_refusal};
 ghost use Rattle.fr_node.specs.Turns.{IfCrashed, IfRefused, Refuses, UnlessCrashed};
 
 use crate::acting::Acting;
 use crate::fault::NodeTurnFault;
+use crate::stand::Stand;
 use crate::turn::{Hearing, Kind, Newest, NodeTurn, Round};
 use crate::wants::Wants;
 use fr_ask::Last;
@@ -16,27 +17,43 @@ use std::alloc::Global;
 /// What a line asks a process of its node.
 #[derive(Debug, Drop)]
 pub enum NodeRequest {
-    /// Which node it is, and its state.
-    Init,
+    /// Which node it is, and where it stands: its whole state, or that without rows.
+    Init {
+        is_whole: bool,
+    },
     /// Its state.
     Last,
     /// What it asks in a turn.
-    Wants { turn: u32, newest: Option<Newest> },
+    Wants {
+        turn: u32,
+        newest: Option<Newest>,
+    },
     /// The value that a key had at a version.
-    Read { key: Bytes, version: Version },
-    /// To take a turn, above a stamp.
-    Take { at: Stamp, turn: NodeTurn },
+    Read {
+        key: Bytes,
+        version: Version,
+    },
+    /// To take a turn, above a stamp, and to say where it then stands, as of `Init`.
+    Take {
+        at: Stamp,
+        turn: NodeTurn,
+        is_whole: bool,
+    },
     /// To enter that it was started again over its files, above a stamp; with the hear that was under way, if one was.
-    Back { at: Stamp, hearing: Option<Hearing> },
+    Back {
+        at: Stamp,
+        hearing: Option<Hearing>,
+        is_whole: bool,
+    },
 }
 
 /// What a process answers.
 #[derive(Debug, Drop)]
 pub enum NodeReply {
-    /// The node, and its state.
+    /// The node, and where it stands.
     Init {
         node: NodeId,
-        last: Last,
+        stand: Stand,
     },
     /// Its state.
     Last {
@@ -50,17 +67,17 @@ pub enum NodeReply {
     Read {
         value: Option<Bytes>,
     },
-    /// What is entered of a turn of a kind, the node's state then, and what it asks, if it asks others.
+    /// What is entered of a turn of a kind, where the node then stands, and what it asks, if it asks others.
     Taken {
         kind: Kind,
         entry: Entry,
-        last: Last,
+        stand: Stand,
         wants: Option<Wants>,
     },
-    /// What was entered when it was started again, and its state.
+    /// What was entered when it was started again, and where it stands.
     Back {
         entries: Vec<Entry>,
-        last: Last,
+        stand: Stand,
     },
 }
 
@@ -77,16 +94,16 @@ pub fn answer<T: Acting>(
         (record { node = T.node node.new; entries = T.entries node.new; last = T.last_of node.new; wanted = T.wanted node.new; read = T.value_at node.new })
         order reply) }
     ensures works { UnlessCrashed result (T.works node.new ≡ true) }
-    ensures refused { Refuses (order_refusal (T.refusal node.old) (T.back_refusal node.old) (T.read_refusal node.old) order) result }
+    ensures refused { Refuses (order_refusal (T.refusal node.old) (T.back_refusal node.old) (T.read_refusal node.old) order) (order_lacks (T.LacksRoom node.old) order) result }
     ensures left { IfRefused result (T.entries node.new ≡ T.entries node.old) }
     ensures stands { IfRefused result (T.last_of node.new ≡ T.last_of node.old) }
     ensures crashed { IfCrashed result T.CanCrash }
 {
     match order {
-        NodeRequest::Init => {
+        NodeRequest::Init { is_whole } => {
             let place = node.place();
-            let last = node.last(alloc)?;
-            Ok(NodeReply::Init { node: place, last })
+            let stand = node.stand(alloc, is_whole)?;
+            Ok(NodeReply::Init { node: place, stand })
         }
         NodeRequest::Last => {
             let last = node.last(alloc)?;
@@ -100,11 +117,15 @@ pub fn answer<T: Acting>(
             let value = node.read(alloc, &key, version)?;
             Ok(NodeReply::Read { value })
         }
-        NodeRequest::Take { at, turn } => take(alloc, node, at, turn),
-        NodeRequest::Back { at, hearing } => {
+        NodeRequest::Take { at, turn, is_whole } => take(alloc, node, at, turn, is_whole),
+        NodeRequest::Back {
+            at,
+            hearing,
+            is_whole,
+        } => {
             let entries = node.back(alloc, at, hearing)?;
-            let last = node.last(alloc)?;
-            Ok(NodeReply::Back { entries, last })
+            let stand = node.stand(alloc, is_whole)?;
+            Ok(NodeReply::Back { entries, stand })
         }
     }
 }
@@ -115,27 +136,28 @@ fn take<T: Acting>(
     node: &mut T,
     at: Stamp,
     turn: NodeTurn,
+    is_whole: bool,
 ) -> Result<NodeReply, NodeTurnFault>
     requires works { T.works node.old ≡ true }
     ensures node { T.node node.new ≡ T.node node.old }
     ensures answered { IfOk result (λ reply. IsAnswer
         (record { node = T.node node.old; entries = T.entries node.old; last = T.last_of node.old; wanted = T.wanted node.old; read = T.value_at node.old })
         (record { node = T.node node.new; entries = T.entries node.new; last = T.last_of node.new; wanted = T.wanted node.new; read = T.value_at node.new })
-        (NodeRequest.Take at turn) reply) }
+        (NodeRequest.Take at turn is_whole) reply) }
     ensures works { UnlessCrashed result (T.works node.new ≡ true) }
-    ensures refused { Refuses (T.refusal node.old at turn) result }
+    ensures refused { Refuses (T.refusal node.old at turn) (T.LacksRoom node.old turn) result }
     ensures left { IfRefused result (T.entries node.new ≡ T.entries node.old) }
     ensures stands { IfRefused result (T.last_of node.new ≡ T.last_of node.old) }
     ensures crashed { IfCrashed result T.CanCrash }
 {
     let kind = turn.kind();
     let entry = node.act(alloc, at, turn)?;
-    let last = node.last(alloc)?;
+    let stand = node.stand(alloc, is_whole)?;
     let wants = wants_of(alloc, node)?;
     Ok(NodeReply::Taken {
         kind,
         entry,
-        last,
+        stand,
         wants,
     })
 }

@@ -4,18 +4,18 @@ ghost use Rattle.fr_audit_journal.specs.Journal.{IsAbove};
 ghost use Rattle.fr_audit_journal.specs.Housing.{next_stamp};
 ghost use Rattle.fr_node.specs.Passive.{are_spent};
 
-use fr_audit_journal::Journal;
+use crate::course::Course;
 use fr_base::Stamp;
 
-/// The next stamp above this one and those of a journal; none if there is no greater one.
-pub fn stamp_above(journal: &Journal, at: Stamp) -> Option<Stamp>
-    ensures value { IfSome result (λ stamp. stamp ≡ next_stamp journal.now.entries at) }
-    ensures there { IfSome result (λ stamp. are_spent journal.now.entries at ≡ false) }
-    ensures above { IfSome result (λ stamp. IsAbove journal.now.entries stamp) }
+/// The next stamp above this one and those of a course; none if there is no greater one.
+pub fn stamp_above(course: &Course, at: Stamp) -> Option<Stamp>
+    ensures value { IfSome result (λ stamp. stamp ≡ next_stamp course.now.entries at) }
+    ensures there { IfSome result (λ stamp. are_spent course.now.entries at ≡ false) }
+    ensures above { IfSome result (λ stamp. IsAbove course.now.entries stamp) }
     ensures later { IfSome result (λ stamp. at < stamp) }
-    ensures spent { result ≡ None → are_spent journal.now.entries at ≡ true }
+    ensures spent { result ≡ None → are_spent course.now.entries at ≡ true }
 {
-    let last = match journal.last_stamp() {
+    let last = match course.last_stamp() {
         Some(last) => last.get(),
         None => 0,
     };

@@ -1,4 +1,4 @@
-//! Storage servers, each with its journal.
+//! Storage servers, each with its course.
 ghost use Rattle.std.specs.Prelude.{◌≡◌, ◌<◌, ◌++◌, ℕ, [], map, false, Ok, Some, None, IfOk, IfSome, OnOk};
 ghost use Rattle.fr_base.specs.declared.place.NodeId.{NodeId};
 ghost use Rattle.fr_node.specs.Begun.{acts_of, back_acts};
@@ -8,7 +8,7 @@ ghost use Rattle.fr_node.specs.Steps.{StorageStep};
 ghost use Rattle.fr_node.specs.declared.turn.NodeTurn.{NodeTurn};
 ghost use Rattle.fr_node.specs.declared.fault.Crash.{Crash};
 ghost use Rattle.fr_node.specs.declared.fault.TurnRefusal.{TurnRefusal};
-ghost use Rattle.fr_node.specs.Turns.{IfCrashed, IfRefused, IsBack, IsTaken, Refuses, RefusesRead, UnlessCrashed};
+ghost use Rattle.fr_node.specs.Turns.{IfCrashed, IfRefused, IsBack, IsTaken, RefusesFor, UnlessCrashed};
 ghost use Rattle.fr_storage.specs.Server.{storage_of};
 ghost use Rattle.fr_undo.specs.Undo.{value_undone};
 
@@ -16,11 +16,11 @@ use crate::begun::part_of;
 use crate::pulls::asks_at;
 use crate::reads::{end_of, last_said, value_said};
 use crate::{
-    Acting, Crash, Hearing, NodeTurn, NodeTurnFault, Round, TurnRefusal, Wants, crash_at,
-    stamp_above,
+    Acting, Course, Crash, Hearing, NodeTurn, NodeTurnFault, Round, Stand, TurnRefusal, Wants,
+    crash_at, stamp_above,
 };
 use fr_ask::{Last, Tell};
-use fr_audit_journal::{Act, Entry, Journal};
+use fr_audit_journal::{Act, Entry};
 use fr_base::{Bytes, Memory, NodeId, Stamp, Version};
 use fr_mutation::Shard;
 use fr_run::take_told;
@@ -30,13 +30,13 @@ use std::alloc::Global;
 use std::marker::Model;
 use std::snapshot::Snapshot;
 
-/// A storage server, with its shard and its journal. Contracts see the server and its shard, its name, its state when
+/// A storage server, with its shard and its course. Contracts see the server and its shard, its name, its state when
 /// its process began, and what it did since.
 #[derive(Drop)]
 pub struct StorageNode<S: ShardStore> {
     storage: Storage<S>,
     shard: Shard,
-    journal: Journal,
+    course: Course,
     first: Snapshot<Storage<S>>,
     has_files: bool,
     is_over: bool,
@@ -54,15 +54,15 @@ impl<S: ShardStore> Model for StorageNode<S> {
     ghost view = { λ s. record {
       storage = s.storage;
       shard = s.shard;
-      place = s.journal.node;
+      place = s.course.node;
       first = s.first.value;
-      entries = s.journal.entries;
+      entries = s.course.entries;
       has_files = s.has_files;
       is_over = s.is_over;
     } };
 
     ghost invariant = { λ s. s.is_over ≡ false → (s.storage.failed ≡ false)
-        × LeadsOn StorageStep (storage_of S.state s.first.value) s.journal.entries (storage_of S.state s.storage) };
+        × LeadsOn StorageStep (storage_of S.state s.first.value) s.course.entries (storage_of S.state s.storage) };
 }
 
 impl<S: ShardStore> StorageNode<S> {
@@ -82,7 +82,7 @@ impl<S: ShardStore> StorageNode<S> {
         StorageNode {
             storage,
             shard,
-            journal: Journal::new(alloc, id),
+            course: Course::new(alloc, id),
             first,
             has_files,
             is_over: false,
@@ -90,13 +90,13 @@ impl<S: ShardStore> StorageNode<S> {
     }
 
     /// What it did. While it works, that leads from the server that the process began with to the one that it has.
-    pub fn journal(&self) -> &Journal
+    pub fn course(&self) -> &Course
         ensures place { result.now.node ≡ self.now.place }
         ensures entries { result.now.entries ≡ self.now.entries }
         ensures leads { self.now.is_over ≡ false
             → LeadsOn StorageStep (storage_of S.state self.now.first) result.now.entries (storage_of S.state self.now.storage) }
     {
-        &self.journal
+        &self.course
     }
 
     /// Hears what a node told it, and enters as much of that as it took: all of it, or the part at whose version it
@@ -112,14 +112,14 @@ impl<S: ShardStore> StorageNode<S> {
         ensures place { self.new.place ≡ self.old.place }
         ensures taken { IfOk result (λ entry. IsTaken self.old.entries self.new.entries at (NodeTurn.Hear from tell) entry) }
         ensures works { OnOk result (self.new.is_over ≡ false) }
-        ensures refused { Refuses (storage_refusal self.old.entries at (NodeTurn.Hear from tell)) result }
+        ensures refused { RefusesFor (storage_refusal self.old.entries at (NodeTurn.Hear from tell)) result }
         ensures left { IfRefused result (self.new ≡ self.old) }
         ensures crashed { IfCrashed result IsStoreCrash }
     {
-        let Some(stamp) = stamp_above(&self.journal, at) else {
+        let Some(stamp) = stamp_above(&self.course, at) else {
             return Err(NodeTurnFault::Refused(TurnRefusal::StampsSpent));
         };
-        self.journal.reserve()?;
+        self.course.reserve()?;
         let taken = match take_told(alloc, &mut self.storage, &from, &tell) {
             Ok(taken) => taken,
             Err(fault) => {
@@ -136,9 +136,8 @@ impl<S: ShardStore> StorageNode<S> {
                 outcome: None,
             },
         };
-        let answered = entry.copy();
-        self.journal.push_reserved(entry);
-        Ok(answered?)
+        self.course.enter(&entry);
+        Ok(entry)
     }
 
     /// The value that a key of its shard had at a version, from the floor through the version applied. It is no turn:
@@ -156,7 +155,7 @@ impl<S: ShardStore> StorageNode<S> {
         ensures entries { self.new.entries ≡ self.old.entries }
         ensures stands { UnlessCrashed result (storage_of S.state self.new.storage ≡ storage_of S.state self.old.storage) }
         ensures works { UnlessCrashed result (self.new.is_over ≡ false) }
-        ensures refused { RefusesRead (storage_read_refusal self.old.shard (storage_of S.state self.old.storage) key.now version) result }
+        ensures refused { RefusesFor (storage_read_refusal self.old.shard (storage_of S.state self.old.storage) key.now version) result }
         ensures crashed { IfCrashed result IsStoreCrash }
     {
         match value_said(alloc, &mut self.storage, &self.shard, key, version) {
@@ -184,14 +183,14 @@ impl<S: ShardStore> StorageNode<S> {
         ensures back { IfOk result (λ answered. IsBack at hearing answered.items) }
         ensures acts { IfOk result (λ answered. map (λ e. e.act) answered.items ≡ back_acts (storage_of S.state self.old.storage) hearing) }
         ensures works { self.new.is_over ≡ false }
-        ensures refused { Refuses (storage_back_refusal self.old.has_files self.old.entries at) result }
+        ensures refused { RefusesFor (storage_back_refusal self.old.has_files self.old.entries at) result }
         ensures left { IfRefused result (self.new.entries ≡ self.old.entries) }
         ensures crashed { IfCrashed result (λ why. why ≡ Crash.Memory) }
     {
         if !self.has_files {
             return Err(NodeTurnFault::Refused(TurnRefusal::NotTaken));
         }
-        if !self.journal.entries().is_empty() {
+        if !self.course.is_empty() {
             return Err(NodeTurnFault::Refused(TurnRefusal::Begun));
         }
         let Some(stamps) = two_stamps(at) else {
@@ -201,8 +200,8 @@ impl<S: ShardStore> StorageNode<S> {
             Some(hearing) => part_of(&self.storage, hearing),
             None => None,
         };
-        let (journal, answered) = begun_again(alloc, self.journal.node(), stamps, hearing, part)?;
-        self.journal = journal;
+        let (course, answered) = begun_again(alloc, self.course.node(), stamps, hearing, part)?;
+        self.course = course;
         Ok(answered)
     }
 }
@@ -218,7 +217,7 @@ fn two_stamps(at: Stamp) -> Option<(Stamp, Stamp)>
     Some((first, second))
 }
 
-/// What a storage server enters that was started again, and the journal of a place with it alone: of the hear that was
+/// What a storage server enters that was started again, and the course of a place with it alone: of the hear that was
 /// under way what it took, if it took any, and that it crashed.
 fn begun_again(
     alloc: Global,
@@ -226,7 +225,7 @@ fn begun_again(
     stamps: (Stamp, Stamp),
     hearing: Option<Hearing>,
     part: Option<Option<Version>>,
-) -> Result<(Journal, Vec<Entry>), Memory>
+) -> Result<(Course, Vec<Entry>), Memory>
     requires rise { stamps.0 < stamps.1 }
     ensures place { IfOk result (λ begun. begun.0.node ≡ place) }
     ensures entries { IfOk result (λ begun. begun.0.entries ≡ begun.1.items) }
@@ -235,7 +234,7 @@ fn begun_again(
     ensures ends { IfOk result (λ begun. EndsInCrash begun.1.items) }
 {
     let (first, second) = stamps;
-    let mut journal = Journal::new(alloc, place);
+    let mut course = Course::new(alloc, place);
     let mut answered = Vec::with_capacity(alloc, 2)?;
     let last = match (hearing, part) {
         (Some(Hearing { from, tell, .. }), Some(taken)) => {
@@ -248,17 +247,17 @@ fn begun_again(
                     outcome: None,
                 },
             };
-            answered.push(entry.copy()?)?;
-            journal.reserve()?;
-            journal.push_reserved(entry);
+            course.reserve()?;
+            course.enter(&entry);
+            answered.push(entry)?;
             second
         }
         _ => first,
     };
+    course.reserve()?;
+    course.enter(&crash_at(last));
     answered.push(crash_at(last))?;
-    journal.reserve()?;
-    journal.push_reserved(crash_at(last));
-    Ok((journal, answered))
+    Ok((course, answered))
 }
 
 impl<S: ShardStore> Acting for StorageNode<S> {
@@ -279,6 +278,8 @@ impl<S: ShardStore> Acting for StorageNode<S> {
 
     ghost refusal = { λ s at turn. storage_refusal s.entries at turn };
 
+    ghost LacksRoom = { λ node turn. ⊥ };
+
     ghost back_refusal = { λ s at hearing. storage_back_refusal s.has_files s.entries at };
 
     ghost wanted = { λ s turn newest. asks_of s.storage turn newest };
@@ -290,7 +291,7 @@ impl<S: ShardStore> Acting for StorageNode<S> {
     ghost CanCrash = { IsStoreCrash };
 
     fn place(&self) -> NodeId {
-        self.journal.node()
+        self.course.node()
     }
 
     fn act(&mut self, alloc: Global, at: Stamp, turn: NodeTurn) -> Result<Entry, NodeTurnFault> {
@@ -318,6 +319,21 @@ impl<S: ShardStore> Acting for StorageNode<S> {
                 self.is_over = true;
                 Err(fault)
             }
+        }
+    }
+
+    // Its rows are read only if they are asked for.
+    fn stand(&mut self, alloc: Global, is_whole: bool) -> Result<Stand, NodeTurnFault> {
+        if is_whole {
+            Ok(Stand::Whole(self.last(alloc)?))
+        } else {
+            let (epoch, version) = self.storage.position();
+            let floor = self.storage.floor();
+            Ok(Stand::Storage {
+                epoch,
+                version,
+                floor,
+            })
         }
     }
 

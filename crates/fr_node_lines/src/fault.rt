@@ -1,7 +1,7 @@
 //! Why a line is not done.
 use crate::names;
 use fr_base::Memory as NoMemory;
-use fr_forms::Form::{self, Number, Object, OrNull, Text};
+use fr_forms::Form::{self, Flag, Number, Object, OrNull, Text};
 use fr_forms::table;
 use fr_node::{Crash, NodeTurnFault, TurnRefusal};
 use std::alloc::AllocError;
@@ -25,6 +25,7 @@ pub enum Member {
     Hearing,
     Key,
     Version,
+    Last,
 }
 
 impl Member {
@@ -47,6 +48,7 @@ impl Member {
             Member::Hearing => names::HEARING,
             Member::Key => names::KEY,
             Member::Version => names::VERSION,
+            Member::Last => names::LAST,
         }
     }
 
@@ -66,6 +68,7 @@ impl Member {
             Member::Newest => &NEWEST,
             Member::Key => &KEY,
             Member::Version => &VERSION,
+            Member::Last => &FLAG,
         }
     }
 }
@@ -94,6 +97,9 @@ static BATCH: Form = table::BATCH;
 static KEY: Form = table::HEX;
 
 static VERSION: Form = table::VERSION;
+
+/// Whether the whole state is asked for.
+static FLAG: Form = Flag;
 
 static TURN: Form = Number(0, (1 << 32) - 1);
 

@@ -35,6 +35,14 @@ impl<'t> Members<'t> {
         }
     }
 
+    /// As [`Members::count`], with one member more if this one is there, which may be left out.
+    pub(crate) fn count_with(&self, count: usize, optional: Member) -> Result<(), BadLine> {
+        match self.get(optional) {
+            Some(_) => self.count(count.wrapping_add(1)),
+            None => self.count(count),
+        }
+    }
+
     /// The text of a member's value.
     pub(crate) fn get(&self, member: Member) -> Option<&'t str> {
         let Some(all) = &self.all else {

@@ -23,6 +23,14 @@ pub(crate) const STEP: &str = "step";
 
 pub(crate) const BATCH: &str = "batch";
 
+pub(crate) const EPOCH: &str = "epoch";
+
+pub(crate) const FLOOR: &str = "floor";
+
+pub(crate) const STORAGE: &str = "storage";
+
+pub(crate) const STANDS: &str = "stands";
+
 pub(crate) const ENTRIES: &str = "entries";
 
 pub(crate) const LAST: &str = "last";

@@ -28,8 +28,8 @@ impl Line {
     }
 }
 
-/// Reads a line to a node. An object has exactly the members that its type has, in any order. Of two members of one
-/// name the last one counts.
+/// Reads a line to a node. An object has exactly the members that its type has, in any order, but for those that may be
+/// left out. Of two members of one name the last one counts.
 pub fn read_line(alloc: Global, node: NodeId, text: &[u8]) -> Line {
     match split(alloc, text) {
         Ok((envelope, line, body)) => {
@@ -97,7 +97,7 @@ fn read_order(
 /// Reads the body of a line of a type.
 fn read_kind(alloc: Global, kind: &str, body: &Members<'_>) -> Result<NodeRequest, BadLine> {
     match kind {
-        names::INIT => body.count(2).map(|()| NodeRequest::Init),
+        names::INIT => read_init(alloc, body),
         names::LAST => body.count(2).map(|()| NodeRequest::Last),
         names::WANTS => read_wants(alloc, body),
         names::READ => read_read(alloc, body),
@@ -107,6 +107,21 @@ fn read_kind(alloc: Global, kind: &str, body: &Members<'_>) -> Result<NodeReques
         names::BEGIN => read_begin(alloc, body),
         names::BACK => read_back(alloc, body),
         _ => Err(BadLine::NoType),
+    }
+}
+
+fn read_init(alloc: Global, body: &Members<'_>) -> Result<NodeRequest, BadLine> {
+    body.count_with(2, Member::Last)?;
+    Ok(NodeRequest::Init {
+        is_whole: is_whole(alloc, body)?,
+    })
+}
+
+/// Whether a line asks for the node's whole state, by a member that may be left out.
+fn is_whole(alloc: Global, body: &Members<'_>) -> Result<bool, BadLine> {
+    match body.get(Member::Last) {
+        Some(_) => body.read(alloc, Member::Last),
+        None => Ok(false),
     }
 }
 
@@ -136,27 +151,34 @@ fn read_read(alloc: Global, body: &Members<'_>) -> Result<NodeRequest, BadLine> 
 }
 
 fn read_begin(alloc: Global, body: &Members<'_>) -> Result<NodeRequest, BadLine> {
-    body.count(3)?;
+    body.count_with(3, Member::Last)?;
     let at = body.read(alloc, Member::At)?;
     Ok(NodeRequest::Take {
         at,
         turn: NodeTurn::Begin,
+        is_whole: is_whole(alloc, body)?,
     })
 }
 
 /// A start after a kill. A line without a hear that was under way had none.
 fn read_back(alloc: Global, body: &Members<'_>) -> Result<NodeRequest, BadLine> {
     let Some(text) = body.get(Member::Hearing) else {
-        body.count(3)?;
+        body.count_with(3, Member::Last)?;
         let at = body.read(alloc, Member::At)?;
-        return Ok(NodeRequest::Back { at, hearing: None });
+        return Ok(NodeRequest::Back {
+            at,
+            hearing: None,
+            is_whole: is_whole(alloc, body)?,
+        });
     };
-    body.count(4)?;
+    body.count_with(4, Member::Last)?;
     let at = body.read(alloc, Member::At)?;
+    let is_whole = is_whole(alloc, body)?;
     match read_hearing(alloc, text) {
         Ok(hearing) => Ok(NodeRequest::Back {
             at,
             hearing: Some(hearing),
+            is_whole,
         }),
         Err(BadLine::Memory) => Err(BadLine::Memory),
         Err(_) => Err(BadLine::Member(Member::Hearing)),
@@ -178,34 +200,37 @@ fn read_hearing(alloc: Global, text: &str) -> Result<Hearing, BadLine> {
 }
 
 fn read_asked(alloc: Global, body: &Members<'_>) -> Result<NodeRequest, BadLine> {
-    body.count(5)?;
+    body.count_with(5, Member::Last)?;
     let at = body.read(alloc, Member::At)?;
     let from = body.read(alloc, Member::From)?;
     let ask = body.read(alloc, Member::Ask)?;
     Ok(NodeRequest::Take {
         at,
         turn: NodeTurn::Ask { from, ask },
+        is_whole: is_whole(alloc, body)?,
     })
 }
 
 fn read_heard(alloc: Global, body: &Members<'_>) -> Result<NodeRequest, BadLine> {
-    body.count(5)?;
+    body.count_with(5, Member::Last)?;
     let at = body.read(alloc, Member::At)?;
     let from = body.read(alloc, Member::From)?;
     let tell = body.read(alloc, Member::Tell)?;
     Ok(NodeRequest::Take {
         at,
         turn: NodeTurn::Hear { from, tell },
+        is_whole: is_whole(alloc, body)?,
     })
 }
 
 fn read_submitted(alloc: Global, body: &Members<'_>) -> Result<NodeRequest, BadLine> {
-    body.count(5)?;
+    body.count_with(5, Member::Last)?;
     let at = body.read(alloc, Member::At)?;
     let step = body.read(alloc, Member::Step)?;
     let batch = body.read(alloc, Member::Batch)?;
     Ok(NodeRequest::Take {
         at,
         turn: NodeTurn::Submit { step, batch },
+        is_whole: is_whole(alloc, body)?,
     })
 }

@@ -2,11 +2,10 @@
 use crate::envelope::Envelope;
 use crate::fault::LineFault;
 use crate::names;
-use fr_ask::Last;
 use fr_audit_journal::{Entry, node_text};
 use fr_base::{Memory, NodeId};
 use fr_forms::{Object, text_value, write_all};
-use fr_node::{Kind, NodeReply, Wants};
+use fr_node::{Kind, NodeReply, Stand, Wants};
 use fr_script::audit::write_entry;
 use serde_json::Value;
 use std::alloc::Global;
@@ -19,9 +18,10 @@ pub fn write_reply(
     reply: &NodeReply,
 ) -> Result<Vec<u8>, Memory> {
     let body = match reply {
-        NodeReply::Init { node, last } => of_type(alloc, names::INIT_OK)?
-            .with(names::NODE, node)?
-            .with(names::LAST, last)?,
+        NodeReply::Init { node, stand } => {
+            let body = of_type(alloc, names::INIT_OK)?.with(names::NODE, node)?;
+            with_stand(alloc, body, stand)?
+        }
         NodeReply::Last { last } => of_type(alloc, names::LAST_OK)?.with(names::LAST, last)?,
         NodeReply::Wants { wants } => {
             of_type(alloc, names::WANTS_OK)?.put(names::WANTS, write_all(alloc, wants.as_slice()))?
@@ -30,13 +30,13 @@ pub fn write_reply(
         NodeReply::Taken {
             kind,
             entry,
-            last,
+            stand,
             wants,
         } => {
-            let body = write_taken(alloc, *kind, entry, last)?;
+            let body = write_taken(alloc, *kind, entry, stand)?;
             with_wants(alloc, body, wants)?
         }
-        NodeReply::Back { entries, last } => write_back(alloc, entries.as_slice(), last)?,
+        NodeReply::Back { entries, stand } => write_back(alloc, entries.as_slice(), stand)?,
     };
     write_line(alloc, node, envelope, body)
 }
@@ -58,16 +58,34 @@ fn of_type(alloc: Global, name: &str) -> Result<Object, Memory> {
     Object::new(alloc).put(names::TYPE, text_value(alloc, name))
 }
 
-/// What is entered of a turn, and the node's state then.
-fn write_taken(alloc: Global, kind: Kind, entry: &Entry, last: &Last) -> Result<Object, Memory> {
-    of_type(alloc, type_of(kind))?
-        .with(names::LAST, last)?
-        .put(names::ENTRY, write_entry(alloc, entry))
+/// With where a node stands: its state, or, of a storage server, that without its rows.
+fn with_stand(alloc: Global, body: Object, stand: &Stand) -> Result<Object, Memory> {
+    match stand {
+        Stand::Whole(last) => body.with(names::LAST, last),
+        Stand::Storage {
+            epoch,
+            version,
+            floor,
+        } => {
+            let its = Object::new(alloc)
+                .with(names::EPOCH, epoch)?
+                .with(names::FLOOR, floor)?
+                .with(names::VERSION, version)?;
+            let stands = Object::new(alloc).put(names::STORAGE, its.value())?;
+            body.put(names::STANDS, stands.value())
+        }
+    }
 }
 
-/// What is entered of a node that was started again, and its state.
-fn write_back(alloc: Global, entries: &[Entry], last: &Last) -> Result<Object, Memory> {
-    let body = of_type(alloc, names::BACK_OK)?.with(names::LAST, last)?;
+/// What is entered of a turn, and where the node then stands.
+fn write_taken(alloc: Global, kind: Kind, entry: &Entry, stand: &Stand) -> Result<Object, Memory> {
+    let body = of_type(alloc, type_of(kind))?;
+    with_stand(alloc, body, stand)?.put(names::ENTRY, write_entry(alloc, entry))
+}
+
+/// What is entered of a node that was started again, and where it stands.
+fn write_back(alloc: Global, entries: &[Entry], stand: &Stand) -> Result<Object, Memory> {
+    let body = with_stand(alloc, of_type(alloc, names::BACK_OK)?, stand)?;
     let mut written = Vec::with_capacity(alloc, entries.len())?;
     for entry in entries {
         written.push(write_entry(alloc, entry)?)?;

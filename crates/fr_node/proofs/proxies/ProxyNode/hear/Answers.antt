@@ -9,11 +9,11 @@ use Rattle.fr_node.proofs.proxies.ProxyNode.hear.Goals as goal
 pub invariant_of-self-in_err-answered : goal.invariant_of-self-in_err-answered
 invariant_of-self-in_err-answered c =
     let e : Entry = record { stamp = c.in-Some.stamp; act = act.Heard c.args.from c.args.tell None (Some c.in_ok-outcome.outcome) } in
-    leads-entered ProxyStep _ _ _ e _ _ c.self.invariant (c.push_reserved.ensures.entries ∙ rw c.reserve.ensures.entries refl)
+    leads-entered ProxyStep _ _ _ e _ _ c.self.invariant (c.put.ensures.entries ∙ rw c.reserve.ensures.entries refl)
     (refl, (ap Some c.in_ok-outcome.ensures.outcome, c.in_ok-outcome.ensures.state))
 
 pub invariant_of-self-2 : goal.invariant_of-self-2
 invariant_of-self-2 c =
     let e : Entry = record { stamp = c.in-Some.stamp; act = act.Heard c.args.from c.args.tell None (Some c.in_ok-outcome.outcome) } in
-    leads-entered ProxyStep _ _ _ e _ _ c.self.invariant (c.push_reserved.ensures.entries ∙ rw c.reserve.ensures.entries refl)
+    leads-entered ProxyStep _ _ _ e _ _ c.self.invariant (c.put.ensures.entries ∙ rw c.reserve.ensures.entries refl)
     (refl, (ap Some c.in_ok-outcome.ensures.outcome, c.in_ok-outcome.ensures.state))

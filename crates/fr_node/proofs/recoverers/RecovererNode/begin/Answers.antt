@@ -11,6 +11,6 @@ invariant_of-self-2 c =
     let e : Entry = record { stamp = c.in-Some.stamp; act = act.Begun c.self.inside.shape } in
     let i = c.self.invariant in (
       i.0,
-      leads-entered (RecStep c.self.inside.first.value.shape) _ _ _ e _ _ i.1 (c.push_reserved.ensures.entries ∙ rw (c.reserve.ensures.entries, c.begun_at.ensures) refl)
+      leads-entered (RecStep c.self.inside.first.value.shape) _ _ _ e _ _ i.1 (c.enter.ensures.entries ∙ rw (c.reserve.ensures.entries, c.begun_at-entry.ensures) refl)
           (c.if-self.false, (i.0, refl)),
     )

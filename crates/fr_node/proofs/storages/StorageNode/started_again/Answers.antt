@@ -10,8 +10,8 @@ pub invariant_of-self : goal.invariant_of-self
 invariant_of-self g c = λ over.
     let i = c.self.invariant over in
     let full : c.is_empty.result ≡ true = cc c.if-not-is_empty.false in
-    let none : c.self.inside.journal.entries ≡ [] = sym c.entries.ensures.value ∙ none-of c.entries.result.now (eqb-true (length c.entries.result.now) 0 (sym c.is_empty.ensures ∙ full)) in (
+    let none : c.self.inside.course.entries ≡ [] = none-of c.self.inside.course.entries (eqb-true (length c.self.inside.course.entries) 0 (sym c.is_empty.ensures ∙ full)) in (
       i.0,
-      on-begun (storage_of g.S.ShardStore.state c.self.inside.first.value) (storage_of g.S.ShardStore.state c.self.inside.storage) c.self.inside.journal.entries c.in_ok-journal.journal.entries
-          i.1 none (subst EndsInCrash (sym c.in_ok-journal.ensures.entries) c.in_ok-journal.ensures.ends),
+      on-begun (storage_of g.S.ShardStore.state c.self.inside.first.value) (storage_of g.S.ShardStore.state c.self.inside.storage) c.self.inside.course.entries c.in_ok-course.course.entries
+          i.1 none (subst EndsInCrash (sym c.in_ok-course.ensures.entries) c.in_ok-course.ensures.ends),
     )
