@@ -40,13 +40,14 @@ enum {
     FDBREC_FUTURE_VERSION = 14 /* the version that is read is above the one that the storage server applied */
 };
 
-/* What calls take beside bytes. Each pointer of a key is one of the call's, by the rules above. */
+/* What calls take beside bytes. Each number is of 64 bits, so that C cuts none on its way: what is beyond its limit is
+ * answered with LIMIT. Each pointer of a key is one of the call's, by the rules above. */
 typedef struct fdbrec_proxy_numbers {
     uint64_t epoch;
     uint64_t known; /* through which version all is committed */
-    uint8_t number; /* of the proxy among those of its generation */
-    uint8_t m;
-    uint8_t k;
+    uint64_t number; /* of the proxy among those of its generation, 0 to 15 */
+    uint64_t m;
+    uint64_t k;
 } fdbrec_proxy_numbers;
 
 typedef struct fdbrec_push_numbers {
@@ -54,14 +55,14 @@ typedef struct fdbrec_push_numbers {
     uint64_t prev; /* the version before */
     uint64_t version;
     uint64_t known;
-    uint8_t tag;
+    uint64_t tag;
 } fdbrec_push_numbers;
 
 typedef struct fdbrec_peek_numbers {
     uint64_t epoch;
     uint64_t after; /* records of greater versions are given */
-    uint8_t tag;
-    uint8_t most; /* how many records at most, 1 to 100 */
+    uint64_t tag;
+    uint64_t most; /* how many records at most, 1 to 100 */
 } fdbrec_peek_numbers;
 
 typedef struct fdbrec_key_at {
@@ -77,12 +78,12 @@ typedef struct fdbrec_key_at {
 /* Machines. What the handle held before is freed, if the new one is there. `shards` are the keys at which shards begin,
  * as ["",..] in hex; `state` is a coordinated state. A recoverer with m and k 0 keeps the shape of the generation before. */
 uint32_t fdbrec_cell_new(fdbrec_part **of);
-uint32_t fdbrec_log_new(fdbrec_part **of, uint64_t epoch, uint8_t index, uint8_t m, uint8_t k);
+uint32_t fdbrec_log_new(fdbrec_part **of, uint64_t epoch, uint64_t index, uint64_t m, uint64_t k);
 uint32_t fdbrec_sequencer_new(fdbrec_part **of, uint64_t epoch, uint64_t last);
 uint32_t fdbrec_proxy_new(fdbrec_part **of, const fdbrec_proxy_numbers *at, const uint8_t *shards, size_t shards_len);
-uint32_t fdbrec_recoverer_new(fdbrec_part **of, uint64_t ballot, uint8_t coordinators, const uint8_t *shards,
-                              size_t shards_len, uint8_t m, uint8_t k);
-uint32_t fdbrec_storage_new(fdbrec_part **of, uint8_t tag, const uint8_t *state, size_t state_len);
+uint32_t fdbrec_recoverer_new(fdbrec_part **of, uint64_t ballot, uint64_t coordinators, const uint8_t *shards,
+                              size_t shards_len, uint64_t m, uint64_t k);
+uint32_t fdbrec_storage_new(fdbrec_part **of, uint64_t tag, const uint8_t *state, size_t state_len);
 uint32_t fdbrec_store_new(fdbrec_part **of);
 
 /* Turns, in lines of JSON. An ask is answered with a tell; what hears or submits answers {"asks":[..],"outcome":..}. */
@@ -123,6 +124,10 @@ uint32_t fdbrec_store_get(fdbrec_part **of, const uint8_t *key, size_t key_len, 
 
 /* Whether a script's journals are a run: the line of `fdbrec audit`. OK: they are; REFUSED: the line says where not. */
 uint32_t fdbrec_audit(const uint8_t *script, size_t script_len, uint8_t *out, size_t out_len, size_t *len);
+
+/* The version of the library, as a text without a zero behind it: `0.2.0`. It may be another one than that of the header
+ * that a program was compiled with. */
+uint32_t fdbrec_version(uint8_t *out, size_t out_len, size_t *len);
 
 /* Ends a machine. An empty handle stays empty. */
 void fdbrec_free(fdbrec_part **of);

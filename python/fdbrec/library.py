@@ -27,7 +27,7 @@ import json
 import os
 import struct
 import threading
-from collections.abc import Iterator, Sequence
+from collections.abc import Callable, Iterator, Sequence
 from enum import IntEnum
 from typing import Any, NamedTuple
 
@@ -131,22 +131,21 @@ _BYTES = ctypes.c_char_p
 _ROOM = ctypes.c_char_p
 _SIZE = ctypes.c_size_t
 _SIZE_OUT = ctypes.POINTER(ctypes.c_size_t)
-_U8 = ctypes.c_uint8
 _U32 = ctypes.c_uint32
 _U64 = ctypes.c_uint64
 _U64_OUT = ctypes.POINTER(ctypes.c_uint64)
 
 
 class _ProxyNumbers(ctypes.Structure):
-    _fields_ = [("epoch", _U64), ("known", _U64), ("number", _U8), ("m", _U8), ("k", _U8)]
+    _fields_ = [("epoch", _U64), ("known", _U64), ("number", _U64), ("m", _U64), ("k", _U64)]
 
 
 class _PushNumbers(ctypes.Structure):
-    _fields_ = [("epoch", _U64), ("prev", _U64), ("version", _U64), ("known", _U64), ("tag", _U8)]
+    _fields_ = [("epoch", _U64), ("prev", _U64), ("version", _U64), ("known", _U64), ("tag", _U64)]
 
 
 class _PeekNumbers(ctypes.Structure):
-    _fields_ = [("epoch", _U64), ("after", _U64), ("tag", _U8), ("most", _U8)]
+    _fields_ = [("epoch", _U64), ("after", _U64), ("tag", _U64), ("most", _U64)]
 
 
 class _KeyAt(ctypes.Structure):
@@ -164,11 +163,11 @@ _KEY_AT = ctypes.POINTER(_KeyAt)
 # Each function of the header: its result, and then its parameters.
 _DECLARED: dict[str, tuple] = {
     "fdbrec_cell_new": (_U32, _PART),
-    "fdbrec_log_new": (_U32, _PART, _U64, _U8, _U8, _U8),
+    "fdbrec_log_new": (_U32, _PART, _U64, _U64, _U64, _U64),
     "fdbrec_sequencer_new": (_U32, _PART, _U64, _U64),
     "fdbrec_proxy_new": (_U32, _PART, _PROXY_NUMBERS, _BYTES, _SIZE),
-    "fdbrec_recoverer_new": (_U32, _PART, _U64, _U8, _BYTES, _SIZE, _U8, _U8),
-    "fdbrec_storage_new": (_U32, _PART, _U8, _BYTES, _SIZE),
+    "fdbrec_recoverer_new": (_U32, _PART, _U64, _U64, _BYTES, _SIZE, _U64, _U64),
+    "fdbrec_storage_new": (_U32, _PART, _U64, _BYTES, _SIZE),
     "fdbrec_store_new": (_U32, _PART),
     "fdbrec_ask": (_U32, _PART, _BYTES, _SIZE, _ROOM, _SIZE, _SIZE_OUT),
     "fdbrec_hear": (_U32, _PART, _BYTES, _SIZE, _ROOM, _SIZE, _SIZE_OUT),
@@ -188,6 +187,7 @@ _DECLARED: dict[str, tuple] = {
     "fdbrec_store_forget": (_U32, _PART, _U64),
     "fdbrec_store_get": (_U32, _PART, _BYTES, _SIZE, _ROOM, _SIZE, _SIZE_OUT),
     "fdbrec_audit": (_U32, _BYTES, _SIZE, _ROOM, _SIZE, _SIZE_OUT),
+    "fdbrec_version": (_U32, _ROOM, _SIZE, _SIZE_OUT),
     "fdbrec_free": (None, _PART),
 }
 
@@ -217,17 +217,12 @@ def _done(status: int) -> None:
         raise fault
 
 
-# The numbers for which the library has 8 bits, and not 64: the limit of each is far below 2^8.
-_SMALL = {"index", "m", "k", "tag", "most", "number", "coordinators"}
-
-
 def _within(**numbers: int) -> list[int]:
-    """These numbers. ctypes would cut one that is below 0, or has more bits than the library has for it, and the
-    library would take what is left. The library itself answers for all others whether they are within their limits."""
+    """These numbers. ctypes would cut one that has more than 64 bits, or is below 0, and the library would take what is
+    left of it; the library itself answers for all others whether they are within their limits."""
     for name, number in numbers.items():
-        bits = 8 if name in _SMALL else 64
-        if not 0 <= number < 1 << bits:
-            fault = OutOfLimits(f"{name} is {number}: it has to be at least 0 and below 2^{bits}")
+        if not 0 <= number < 1 << 64:
+            fault = OutOfLimits(f"{name} is {number}: a number of the library is at least 0 and below 2^64")
             fault.status = Status.LIMIT
             raise fault
     return list(numbers.values())
@@ -583,11 +578,21 @@ def _begins(shards: Sequence[bytes]) -> bytes:
 def audit(script: Json) -> str:
     """The line of `fdbrec audit`: `audit ok` if the journals of a script are a run, else where they are none."""
     text = script.encode() if isinstance(script, str) else _compact(script)
+    return _text(lambda *room: _LIBRARY.fdbrec_audit(text, len(text), *room)).rstrip("\n")
+
+
+def version() -> str:
+    """The version of the C library, which may be another one than that of this package."""
+    return _text(_LIBRARY.fdbrec_version)
+
+
+def _text(call: Callable[..., int]) -> str:
+    """The text of a call of no machine, which is made again with more room if the text does not fit."""
     room, used = ctypes.create_string_buffer(256), ctypes.c_size_t()
     while True:
-        status = _LIBRARY.fdbrec_audit(text, len(text), room, len(room), ctypes.byref(used))
+        status = call(room, len(room), ctypes.byref(used))
         if status in (Status.OK, Status.REFUSED):
-            return room.raw[: used.value].decode().rstrip("\n")
+            return room.raw[: used.value].decode()
         if status != Status.SHORT:
             _done(status)
         room = ctypes.create_string_buffer(used.value)

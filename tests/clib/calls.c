@@ -395,6 +395,57 @@ static void stores(void)
     fdbrec_free(&store);
 }
 
+/* No number is cut on its way: one whose lowest bits are a number within its limit is refused all the same. */
+static void uncut(void)
+{
+    static const unsigned bits[] = {8, 16, 32, 63};
+    fdbrec_part *log = NULL, *none = NULL;
+    uint64_t held = 0, upto = 0, known = 0;
+    IS(fdbrec_log_new(&log, 257, 0, 1, 1), FDBREC_OK);
+    with_room(64);
+    WITH(line, text(SEED), IS(fdbrec_ask(&log, line.at, line.size, out, room, &len), FDBREC_OK));
+    WITH(line, text(MARK), IS(fdbrec_ask(&log, line.at, line.size, out, room, &len), FDBREC_OK));
+    for (size_t each = 0; each < sizeof bits / sizeof *bits; each++) {
+        uint64_t wide = 1ull << bits[each];
+        struct given shards = text("[\"\"]"), state = text(STATE), batch = SPELLED;
+        fdbrec_proxy_numbers number = *PROXY(wide), m = *PROXY(0), k = *PROXY(0);
+        fdbrec_peek_numbers tag = *PEEK(0, 1);
+        m.m += wide;
+        k.k += wide;
+        tag.tag = wide;
+        IS(fdbrec_log_new(&none, 257, wide, 1, 1), FDBREC_LIMIT);
+        IS(fdbrec_log_new(&none, 257, 0, wide + 1, 1), FDBREC_LIMIT);
+        IS(fdbrec_log_new(&none, 257, 0, 1, wide + 1), FDBREC_LIMIT);
+        IS(fdbrec_proxy_new(&none, &number, shards.at, shards.size), FDBREC_LIMIT);
+        IS(fdbrec_proxy_new(&none, &m, shards.at, shards.size), FDBREC_LIMIT);
+        IS(fdbrec_proxy_new(&none, &k, shards.at, shards.size), FDBREC_LIMIT);
+        IS(fdbrec_recoverer_new(&none, 513, wide + 1, shards.at, shards.size, 1, 1), FDBREC_LIMIT);
+        IS(fdbrec_recoverer_new(&none, 513, 1, shards.at, shards.size, wide + 1, 1), FDBREC_LIMIT);
+        IS(fdbrec_recoverer_new(&none, 513, 1, shards.at, shards.size, 1, wide + 1), FDBREC_LIMIT);
+        IS(fdbrec_recoverer_new(&none, 513, 1, shards.at, shards.size, wide, wide), FDBREC_LIMIT);
+        IS(fdbrec_storage_new(&none, wide, state.at, state.size), FDBREC_LIMIT);
+        IS(none, NULL);
+        IS(fdbrec_log_push(&log, PUSH(1, 2, 1, wide), batch.at, batch.size, &held), FDBREC_LIMIT);
+        IS(fdbrec_log_peek(&log, &tag, out, room, &len, &upto, &known), FDBREC_LIMIT);
+        IS(fdbrec_log_peek(&log, PEEK(0, wide + 1), out, room, &len, &upto, &known), FDBREC_LIMIT);
+        free(shards.at);
+        free(state.at);
+        free(batch.at);
+    }
+    fdbrec_free(&none);
+    fdbrec_free(&log);
+}
+
+/* The version is that of the archive's sources, which build-library writes into what pkg-config reads. */
+static void versions(const char *wanted)
+{
+    with_room(0);
+    IS(fdbrec_version(out, room, &len), FDBREC_SHORT);
+    with_room(len);
+    IS(fdbrec_version(out, room, &len), FDBREC_OK);
+    IS(says(wanted), 1);
+}
+
 /* What is nested deeper than any form is no line. */
 static void nested(void)
 {
@@ -430,8 +481,12 @@ static void audits(void)
     IS(len, strlen("state differs at sequencer 257\n"));
 }
 
-int main(void)
+int main(int count, char **words)
 {
+    if (count != 2)
+        return 2;
+    versions(words[1]);
+    uncut();
     of_none();
     cells();
     logs();

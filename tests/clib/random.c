@@ -30,11 +30,11 @@ static uint32_t make(fdbrec_part **of, char kind, uint64_t number, const uint8_t
 {
     switch (kind) {
     case 'c': return fdbrec_cell_new(of);
-    case 'l': return fdbrec_log_new(of, 257, (uint8_t)number, 4, 2);
+    case 'l': return fdbrec_log_new(of, 257, number, 4, 2);
     case 'q': return fdbrec_sequencer_new(of, 257, number);
     case 'p': return fdbrec_proxy_new(of, &(fdbrec_proxy_numbers){257, number, 0, 2, 1}, text, size);
-    case 'r': return fdbrec_recoverer_new(of, 513, (uint8_t)number, text, size, 0, 0);
-    case 's': return fdbrec_storage_new(of, (uint8_t)number, text, size);
+    case 'r': return fdbrec_recoverer_new(of, 513, number, text, size, 0, 0);
+    case 's': return fdbrec_storage_new(of, number, text, size);
     default: return fdbrec_store_new(of);
     }
 }

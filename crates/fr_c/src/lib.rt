@@ -23,6 +23,7 @@ mod making;
 mod storages;
 mod stores;
 mod turns;
+mod version;
 
 ghost use Rattle.std.specs.Prelude.{◌≡◌, None};
 

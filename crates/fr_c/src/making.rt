@@ -1,12 +1,12 @@
 //! Makes machines, and puts each into its handle.
-ghost use Rattle.std.specs.Prelude.{◌≡◌, false};
+ghost use Rattle.std.specs.Prelude.{◌≡◌, ◌≢◌, ◌<◌, ◌↔◌};
 ghost use Rattle.fr_register.specs.CellState.{fresh_cell};
 ghost use Rattle.fr_log.specs.LogState.{fresh_log};
 ghost use Rattle.fr_proxy.specs.Sequencer.{new_sequencer};
 ghost use Rattle.fr_undo.specs.State.{fresh};
 ghost use Rattle.fr_part.specs.declared.part.Part.TheVariants as part;
-ghost use Rattle.fr_part.specs.Made.{IsMadeAs, IsProxyMade, IsRecovererMade, IsStorageMade};
-ghost use Rattle.fr_part.specs.Calls.{IsMade, keeps};
+ghost use Rattle.fr_part.specs.Made.{IsMadeAs, IsNoLog, IsNoProxy, IsNoRecoverer, IsNoSequencer, IsProxyMade, IsRecovererMade, IsStorageMade, IsUnmade};
+ghost use Rattle.fr_part.specs.Calls.{IsMade};
 
 use fr_part::calls::making::{
     ProxyNumbers, make_log, make_proxy, make_recoverer, make_sequencer, make_storage,
@@ -21,7 +21,7 @@ use std::alloc::Global;
 /// one.
 fn put(alloc: Global, of: &mut Handle, part: Part) -> u32
     ensures made { IsMade result of.old.value of.new.value part }
-    ensures status { keeps result ≡ false → result ≡ 0 }
+    ensures status { result ≢ 1 → result ≡ 0 }
 {
     match Box::new(alloc, Seat::new(part)) {
         Ok(seat) => {
@@ -36,6 +36,7 @@ fn put(alloc: Global, of: &mut Handle, part: Part) -> u32
 #[unsafe(no_mangle)]
 pub extern "C" fn fdbrec_cell_new(alloc: Global, of: &mut Handle) -> u32
     ensures made { IsMade result of.old.value of.new.value (part.Cell fresh_cell) }
+    ensures status { result ≢ 1 → result ≡ 0 }
 {
     put(alloc, of, Part::Cell(Cell::new(alloc)))
 }
@@ -46,11 +47,13 @@ pub extern "C" fn fdbrec_log_new(
     alloc: Global,
     of: &mut Handle,
     epoch: u64,
-    index: u8,
-    m: u8,
-    k: u8,
+    index: u64,
+    m: u64,
+    k: u64,
 ) -> u32
     ensures made { IsMade result of.old.value of.new.value (part.Log (fresh_log epoch index m k)) }
+    ensures limit { (result ≡ 6) ↔ IsNoLog epoch index m k }
+    ensures status { result ≢ 1 → result ≢ 6 → result ≡ 0 }
 {
     match make_log(alloc, epoch, index, m, k) {
         Ok(part) => put(alloc, of, part),
@@ -62,6 +65,8 @@ pub extern "C" fn fdbrec_log_new(
 #[unsafe(no_mangle)]
 pub extern "C" fn fdbrec_sequencer_new(alloc: Global, of: &mut Handle, epoch: u64, last: u64) -> u32
     ensures made { IsMade result of.old.value of.new.value (part.Sequencer (new_sequencer epoch last)) }
+    ensures limit { (result ≡ 6) ↔ IsNoSequencer epoch last }
+    ensures status { result ≢ 1 → result ≢ 6 → result ≡ 0 }
 {
     match make_sequencer(alloc, epoch, last) {
         Ok(part) => put(alloc, of, part),
@@ -78,6 +83,8 @@ pub extern "C" fn fdbrec_proxy_new(
     shards: &[u8],
 ) -> u32
     ensures made { IsMadeAs result of.old.value of.new.value (IsProxyMade at.now) }
+    ensures limit { (result ≡ 6) ↔ IsNoProxy at.now }
+    ensures status { result ≢ 0 → IsUnmade result }
 {
     match make_proxy(alloc, at, shards) {
         Ok(part) => put(alloc, of, part),
@@ -92,12 +99,14 @@ pub extern "C" fn fdbrec_recoverer_new(
     alloc: Global,
     of: &mut Handle,
     ballot: u64,
-    coordinators: u8,
+    coordinators: u64,
     shards: &[u8],
-    m: u8,
-    k: u8,
+    m: u64,
+    k: u64,
 ) -> u32
     ensures made { IsMadeAs result of.old.value of.new.value (IsRecovererMade ballot coordinators m k) }
+    ensures limit { (result ≡ 6) ↔ IsNoRecoverer ballot coordinators m k }
+    ensures status { result ≢ 0 → IsUnmade result }
 {
     match make_recoverer(alloc, ballot, coordinators, shards, m, k) {
         Ok(part) => put(alloc, of, part),
@@ -107,8 +116,10 @@ pub extern "C" fn fdbrec_recoverer_new(
 
 /// Makes a storage server that begins in a state, over a store in which nothing was applied.
 #[unsafe(no_mangle)]
-pub extern "C" fn fdbrec_storage_new(alloc: Global, of: &mut Handle, tag: u8, state: &[u8]) -> u32
+pub extern "C" fn fdbrec_storage_new(alloc: Global, of: &mut Handle, tag: u64, state: &[u8]) -> u32
     ensures made { IsMadeAs result of.old.value of.new.value (IsStorageMade tag) }
+    ensures limit { (result ≡ 6) ↔ (31 < tag) }
+    ensures status { result ≢ 0 → IsUnmade result }
 {
     match make_storage(alloc, tag, state) {
         Ok(part) => put(alloc, of, part),
@@ -120,6 +131,7 @@ pub extern "C" fn fdbrec_storage_new(alloc: Global, of: &mut Handle, tag: u8, st
 #[unsafe(no_mangle)]
 pub extern "C" fn fdbrec_store_new(alloc: Global, of: &mut Handle) -> u32
     ensures made { IsMade result of.old.value of.new.value (part.Store fresh) }
+    ensures status { result ≢ 1 → result ≡ 0 }
 {
     put(alloc, of, Part::Store(MapStore::new(alloc)))
 }

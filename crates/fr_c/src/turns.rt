@@ -1,9 +1,11 @@
 //! Turns of machines, in lines of JSON.
-ghost use Rattle.std.specs.Prelude.{◌≡◌, ◌<◌, true, length, take};
+ghost use Rattle.std.specs.Prelude.{◌≡◌, ◌≢◌, ◌<◌, ◌↔◌, ◌∷◌, [], true, false, length, take, None};
 ghost use Rattle.fr_part.specs.Seat.{SubmitsIn};
-ghost use Rattle.fr_part.specs.Answers.{IfBatch, IsJson};
-ghost use Rattle.fr_part.specs.Calls.{AnyAsk, AnyHear, IsTurn, Over, is_told, refuses};
-ghost use Rattle.fr_c.specs.Turns.{GivesLine};
+ghost use Rattle.fr_part.specs.Answers.{IfBatch, IsJson, IsNoBatch, IsNoStep};
+ghost use Rattle.fr_part.specs.Hear.{hears, submit_fault, submits};
+ghost use Rattle.fr_part.specs.declared.calls.turns.LineOf.TheVariants as line;
+ghost use Rattle.fr_part.specs.Calls.{AnyAsk, AnyHear, AnyPart, AnyRefused, IsTurn, Over, IsAmong, is_told};
+ghost use Rattle.fr_c.specs.Turns.{GivesLine, TellsKind};
 
 use fr_part::Handle;
 use fr_part::calls::turns::{LineOf, ask_line, hear_line, submit_to, tell_line};
@@ -18,7 +20,9 @@ pub extern "C" fn fdbrec_ask(
     out: &mut [u8],
     len: &mut usize,
 ) -> u32
-    ensures turn { Over of.old.value of.new.value result (λ old new. IsTurn result old new (AnyAsk old new)) }
+    ensures turn { Over of.old.value of.new.value result
+        (λ old new. IsTurn (is_told result) old new (AnyAsk old new)) }
+    ensures among { IsAmong (0 ∷ 1 ∷ 2 ∷ 3 ∷ 4 ∷ 7 ∷ 8 ∷ []) result }
     ensures ok { result ≡ 0 → IsJson (take len.new out.new) }
     ensures short { result ≡ 3 → length out.new < len.new }
 {
@@ -34,8 +38,14 @@ pub extern "C" fn fdbrec_hear(
     out: &mut [u8],
     len: &mut usize,
 ) -> u32
-    ensures kept { Over of.old.value of.new.value result (λ old new. refuses result ≡ true → new ≡ old) }
     ensures done { Over of.old.value of.new.value result (λ old new. is_told result ≡ true → AnyHear old new) }
+    ensures part { Over of.old.value of.new.value result (λ old new. result ≡ 9 → AnyPart old new) }
+    ensures refused { Over of.old.value of.new.value result (λ old new. result ≡ 5 → AnyRefused old) }
+    ensures kind { Over of.old.value of.new.value result
+        (λ old new. result ≢ 1 → result ≢ 7 → ((result ≡ 4) ↔ (hears old.part ≡ false))) }
+    ensures among { IsAmong (0 ∷ 1 ∷ 2 ∷ 3 ∷ 4 ∷ 5 ∷ 7 ∷ 8 ∷ 9 ∷ []) result }
+    ensures kept { Over of.old.value of.new.value result
+        (λ old new. is_told result ≡ false → result ≢ 9 → new ≡ old) }
     ensures ok { result ≡ 0 → IsJson (take len.new out.new) }
     ensures short { result ≡ 3 → length out.new < len.new }
 {
@@ -53,9 +63,16 @@ pub extern "C" fn fdbrec_submit(
     out: &mut [u8],
     len: &mut usize,
 ) -> u32
-    ensures kept { Over of.old.value of.new.value result (λ old new. refuses result ≡ true → new ≡ old) }
     ensures done { Over of.old.value of.new.value result
         (λ old new. is_told result ≡ true → IfBatch batch.now (λ ms. SubmitsIn old step ms new)) }
+    ensures limit { Over of.old.value of.new.value result (λ old new. (result ≡ 6) ↔ IsNoStep step) }
+    ensures bad_text { Over of.old.value of.new.value result (λ old new. result ≡ 7 → IsNoBatch batch.now) }
+    ensures kind { Over of.old.value of.new.value result
+        (λ old new. result ≢ 1 → result ≢ 6 → result ≢ 7 → ((result ≡ 4) ↔ (submits old.part ≡ false))) }
+    ensures refused { Over of.old.value of.new.value result (λ old new. result ≢ 1 → result ≢ 6 → result ≢ 7
+        → ((result ≡ 5) ↔ (submit_fault old.part ≢ None))) }
+    ensures among { IsAmong (0 ∷ 1 ∷ 2 ∷ 3 ∷ 4 ∷ 5 ∷ 6 ∷ 7 ∷ 8 ∷ []) result }
+    ensures kept { Over of.old.value of.new.value result (λ old new. is_told result ≡ false → new ≡ old) }
     ensures ok { result ≡ 0 → IsJson (take len.new out.new) }
     ensures short { result ≡ 3 → length out.new < len.new }
 {
@@ -71,6 +88,7 @@ pub extern "C" fn fdbrec_answer(
     len: &mut usize,
 ) -> u32
     ensures line { GivesLine of.old.value of.new.value result out.new len.new }
+    ensures among { IsAmong (0 ∷ 2 ∷ 3 ∷ 8 ∷ []) result }
 {
     with_seat!(alloc, of, seat => tell_line(alloc, &seat, LineOf::Said, out, len))
 }
@@ -84,6 +102,8 @@ pub extern "C" fn fdbrec_next(
     len: &mut usize,
 ) -> u32
     ensures line { GivesLine of.old.value of.new.value result out.new len.new }
+    ensures kind { TellsKind of.old.value of.new.value result line.Next }
+    ensures among { IsAmong (0 ∷ 1 ∷ 2 ∷ 3 ∷ 4 ∷ []) result }
 {
     with_seat!(alloc, of, seat => tell_line(alloc, &seat, LineOf::Next, out, len))
 }
@@ -97,6 +117,8 @@ pub extern "C" fn fdbrec_last(
     len: &mut usize,
 ) -> u32
     ensures line { GivesLine of.old.value of.new.value result out.new len.new }
+    ensures kind { TellsKind of.old.value of.new.value result line.Last }
+    ensures among { IsAmong (0 ∷ 1 ∷ 2 ∷ 3 ∷ 4 ∷ []) result }
 {
     with_seat!(alloc, of, seat => tell_line(alloc, &seat, LineOf::Last, out, len))
 }

@@ -1,5 +1,5 @@
 -- What a call leaves in the memory of its caller, by what was said last.
-use Rattle.std.specs.Prelude.{◌≡◌, ◌<◌, ◌++◌, ℕ, List, [], ◌∷◌, length, take, None, Result, Ok, Err}
+use Rattle.std.specs.Prelude.{◌≡◌, ◌≢◌, ◌<◌, ◌≤◌, ◌+◌, ◌^◌, ◌⊎◌, ◌++◌, ℕ, nat_lt, List, [], ◌∷◌, length, take, None, Result, Ok, Err, if◌then◌else◌}
 use Rattle.std.specs.List.{flat_map}
 use Rattle.std.specs.Int.{w64, to_be_bytes}
 use Rattle.json.specs.Lex.{tokens}
@@ -16,6 +16,8 @@ use Rattle.fr_log.specs.Peeked.{PeekedContent}
 use Rattle.fr_log.specs.Push.{PushContent}
 use Rattle.fr_log.specs.declared.records.PeekedRecord.{PeekedRecord}
 use Rattle.fr_ask.specs.declared.tell.Tell.TheVariants as tell
+use Rattle.fr_part.specs.Made.{IsNoEpoch}
+use Rattle.fr_part.specs.declared.calls.logs.PeekNumbers.{PeekNumbers}
 use Rattle.fr_part.specs.declared.calls.logs.PushNumbers.{PushNumbers}
 use Rattle.fr_part.specs.declared.said.Said.{Said}
 use Rattle.fr_part.specs.declared.said.Said.TheVariants as said
@@ -27,6 +29,10 @@ IsGiven bytes out len = (len ≡ length bytes) × (take len out ≡ bytes)
 -- there is no room for these bytes, and how many they are is told
 abbrev pub IsShort : List ℕ → List ℕ → ℕ → Type 0
 IsShort bytes out len = (len ≡ length bytes) × (length out < len)
+
+-- whether there is room for bytes: OK, else SHORT
+abbrev pub room_status : List ℕ → List ℕ → ℕ
+room_status bytes out = if nat_lt (length out) (length bytes) then 3 else 0
 
 -- a text of JSON, as it is printed without blanks
 abbrev pub IsJson : List ℕ → Type 0
@@ -80,6 +86,28 @@ IsWritten s number = IfCellTold s (λ t. IfWritten t (λ ballot. number ≡ ball
 abbrev pub IsTwoValues : Said → Type 0
 IsTwoValues s = IfCellTold s (λ t. t ≡ cell_tell.TwoValues)
 
+-- which status a read of a cell has, by what was said last: UNTOLD where that is no answer to a read
+abbrev pub read_status : Said → List ℕ → ℕ
+read_status said.Nothing out = 8
+read_status (said.Heard heard) out = 8
+read_status (said.Told (tell.Cell (cell_tell.Promise written value))) out = room_status value out
+read_status (said.Told (tell.Cell (cell_tell.Written ballot))) out = 8
+read_status (said.Told (tell.Cell (cell_tell.Refused promised))) out = 5
+read_status (said.Told (tell.Cell cell_tell.TwoValues)) out = 8
+read_status (said.Told (tell.Log t)) out = 8
+read_status (said.Told (tell.Seq t)) out = 8
+
+-- the same of a write
+abbrev pub write_status : Said → ℕ
+write_status said.Nothing = 8
+write_status (said.Heard heard) = 8
+write_status (said.Told (tell.Cell (cell_tell.Promise written value))) = 8
+write_status (said.Told (tell.Cell (cell_tell.Written ballot))) = 0
+write_status (said.Told (tell.Cell (cell_tell.Refused promised))) = 5
+write_status (said.Told (tell.Cell cell_tell.TwoValues)) = 10
+write_status (said.Told (tell.Log t)) = 8
+write_status (said.Told (tell.Seq t)) = 8
+
 -- what was said last is a tell of a log
 abbrev pub IfLogTold : Said → (LogTell → Type 0) → Type 0
 IfLogTold said.Nothing P = ⊥
@@ -91,6 +119,23 @@ IfLogTold (said.Told (tell.Seq t)) P = ⊥
 -- a log holds the push of a version
 abbrev pub IsHeld : Said → ℕ → Type 0
 IsHeld s held = IfLogTold s (λ t. t ≡ log_tell.Held held)
+
+-- which status a push has, by what was said last: the log holds it, or else refuses
+abbrev pub push_status : Said → ℕ
+push_status said.Nothing = 5
+push_status (said.Heard heard) = 5
+push_status (said.Told (tell.Cell t)) = 5
+push_status (said.Told (tell.Log (log_tell.Held version))) = 0
+push_status (said.Told (tell.Log t)) = 5
+push_status (said.Told (tell.Seq t)) = 5
+
+-- a log refuses
+abbrev pub IfRefusal : LogTell → Type 0
+IfRefusal (log_tell.Refused why) = Unit {0}
+IfRefusal t = ⊥
+
+abbrev pub IsLogRefused : Said → Type 0
+IsLogRefused s = IfLogTold s IfRefusal
 
 -- ---- what a log has of a tag
 
@@ -123,6 +168,31 @@ IfDecoded (Err fault) size P = ⊥
 
 abbrev pub IfBatch : List ℕ → (List Mutation → Type 0) → Type 0
 IfBatch bytes P = IfDecoded (decoded bytes) (length bytes) P
+
+-- bytes are the spelling of no batch, or not all of them are
+abbrev pub IsNoneDecoded : Result (List Mutation × ℕ) DecodeFault → ℕ → Type 0
+IsNoneDecoded (Ok found) size = found.1 ≢ size
+IsNoneDecoded (Err fault) size = Unit {0}
+
+abbrev pub IsNoBatch : List ℕ → Type 0
+IsNoBatch bytes = IsNoneDecoded (decoded bytes) (length bytes)
+
+-- ---- numbers that are beyond their limits
+
+-- a ballot is 0, or at least 256 and below 2^48
+abbrev pub IsNoBallot : ℕ → Type 0
+IsNoBallot ballot = ((0 < ballot) × (ballot < 256)) ⊎ (2 ^ 48 ≤ ballot)
+
+-- a version is at most a million above the one before it, and that one is not below what is known
+abbrev pub IsNoPush : PushNumbers → Type 0
+IsNoPush at = IsNoEpoch at.epoch ⊎ ((2 ^ 62 ≤ at.version) ⊎ ((31 < at.tag)
+    ⊎ ((at.version ≤ at.prev) ⊎ ((at.prev + 1000000 < at.version) ⊎ (at.prev < at.known)))))
+
+abbrev pub IsNoPeek : PeekNumbers → Type 0
+IsNoPeek at = IsNoEpoch at.epoch ⊎ ((2 ^ 62 ≤ at.after) ⊎ ((31 < at.tag) ⊎ ((at.most < 1) ⊎ (100 < at.most))))
+
+abbrev pub IsNoStep : ℕ → Type 0
+IsNoStep step = (step < 1) ⊎ (1000000 < step)
 
 -- a push of one body
 abbrev pub push_of : PushNumbers → List Mutation → PushContent

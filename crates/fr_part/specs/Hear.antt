@@ -1,5 +1,5 @@
 -- What a machine of any kind does at a tell that it hears, what it asks, and what a proxy makes of a batch.
-use Rattle.std.specs.Prelude.{◌≡◌, Bool, true, false, ℕ, List, [], ◌∷◌, ◌==◌, ◌%◌, find, Option, None, Some}
+use Rattle.std.specs.Prelude.{◌≡◌, ◌≢◌, Bool, true, false, IsTrue, ℕ, List, [], ◌∷◌, ◌==◌, ◌%◌, find, Option, None, Some, IsSome}
 use Rattle.fr_base.specs.declared.place.NodeId.{NodeId}
 use Rattle.fr_base.specs.declared.place.NodeId.TheVariants as node
 use Rattle.fr_ask.specs.declared.ask.Ask.{Ask}
@@ -15,8 +15,10 @@ use Rattle.fr_epoch.specs.Hear as recovery
 use Rattle.fr_state.specs.Generations.{LogGeneration}
 use Rattle.fr_undo.specs.State.{StoreState}
 use Rattle.fr_storage.specs.Course as course
-use Rattle.fr_storage.specs.Server.{Server, storage_of}
+use Rattle.fr_storage.specs.Server.{Server, kept_of, storage_of}
+use Rattle.fr_storage.specs.Standing.{IsFound}
 use Rattle.fr_storage.specs.Storage.{StorageState, ask_after}
+use Rattle.fr_part.specs.Reads.{IfStorage}
 use Rattle.fr_part.specs.declared.part.Part.{Part}
 use Rattle.fr_part.specs.declared.part.Part.TheVariants as part
 use Rattle.fr_part.specs.declared.said.Heard.{Heard}
@@ -63,6 +65,36 @@ hears (part.Proxy p) = true
 hears (part.Recoverer r) = true
 hears (part.Storage s) = true
 hears (part.Store s) = false
+
+-- ---- a tell is refused, or breaks off
+
+-- a storage server refuses what it hears: by its rules, and not since it is still to be opened again
+abbrev pub IsRefusedBy : Server StoreState → course.Heard → Type 0
+IsRefusedBy s heard = (s.failed ≡ false) × IsSome (course.fault_of (standing s) heard)
+
+abbrev pub IsHearRefused : Part → NodeId → Tell → Type 0
+IsHearRefused (part.Cell c) from t = ⊥
+IsHearRefused (part.Log l) from t = ⊥
+IsHearRefused (part.Sequencer s) from t = ⊥
+IsHearRefused (part.Proxy p) from t = ⊥
+IsHearRefused (part.Recoverer r) from t = ⊥
+IsHearRefused (part.Storage s) from t = IsRefusedBy s (told_by from t)
+IsHearRefused (part.Store s) from t = ⊥
+
+-- a storage server is still to be opened again, and is told something that it hears
+abbrev pub IsUnopened : Part → course.Heard → Type 0
+IsUnopened old heard = IfStorage old (λ s. IsTrue s.failed × (heard ≢ course.Nothing))
+
+-- a storage server ran out of memory amid calls of its store. It was opened again, on the way of these calls, or, if it
+-- was to be opened again before, as its store was then; or it is still to be, and keeps its tag, state, floor and version
+abbrev pub IsBrokenOff : Server StoreState → course.Heard → Server StoreState → Type 0
+IsBrokenOff s heard n = (s.failed ≡ false → course.calls_of (standing s) heard ≢ [])
+    × (s.failed ≡ false → n.failed ≡ false → course.IsAfter (standing s) heard (standing n))
+    × (IsTrue s.failed → n.failed ≡ false → IsFound (λ store left. left ≡ store) s (standing n))
+    × (IsTrue n.failed → kept_of n ≡ kept_of s)
+
+abbrev pub IsPartHeard : Part → NodeId → Tell → Part → Type 0
+IsPartHeard old from t new = IfStorage old (λ s. IfStorage new (λ n. IsBrokenOff s (told_by from t) n))
 
 -- ---- a batch is submitted
 

@@ -4,9 +4,11 @@ pub mod Fault
 pub mod Hear
 pub mod Held
 pub mod Last
+pub mod LineCalls
 pub mod Made
 pub mod ReadCalls
 pub mod Reads
 pub mod Seat
 pub mod Store
 pub mod Turn
+pub mod Version

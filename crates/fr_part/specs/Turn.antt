@@ -1,5 +1,5 @@
 -- What a machine of any kind is told, and where it then stands. An ask of another kind is told nothing and changes nothing.
-use Rattle.std.specs.Prelude.{Option, None, Some}
+use Rattle.std.specs.Prelude.{Bool, true, false, Option, None, Some}
 use Rattle.fr_register.specs.Cell as cell
 use Rattle.fr_register.specs.CellState.{CellState}
 use Rattle.fr_log.specs.Step as log
@@ -60,3 +60,23 @@ after_of (part.Proxy p) a = part.Proxy p
 after_of (part.Recoverer r) a = part.Recoverer r
 after_of (part.Storage s) a = part.Storage s
 after_of (part.Store s) a = part.Store s
+
+-- the machine is a log
+abbrev pub is_log : Part → Bool
+is_log (part.Cell c) = false
+is_log (part.Log l) = true
+is_log (part.Sequencer s) = false
+is_log (part.Proxy p) = false
+is_log (part.Recoverer r) = false
+is_log (part.Storage s) = false
+is_log (part.Store s) = false
+
+-- the machine is a cell
+abbrev pub is_cell : Part → Bool
+is_cell (part.Cell c) = true
+is_cell (part.Log l) = false
+is_cell (part.Sequencer s) = false
+is_cell (part.Proxy p) = false
+is_cell (part.Recoverer r) = false
+is_cell (part.Storage s) = false
+is_cell (part.Store s) = false

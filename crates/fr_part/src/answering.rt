@@ -1,6 +1,7 @@
 //! Machines that answer asks.
-ghost use Rattle.std.specs.Prelude.{◌≡◌, ◌↔◌, Some, None, Err, IfOk, OnErr};
+ghost use Rattle.std.specs.Prelude.{◌≡◌, ◌↔◌, Some, None, Err, IfOk, IfErr, OnErr};
 ghost use Rattle.fr_part.specs.Turn.{told_of, after_of, cell_told, cell_after, log_told, log_after, sequencer_told, sequencer_after};
+ghost use Rattle.fr_part.specs.Fault.{IsUnasked};
 ghost use Rattle.fr_part.specs.declared.fault.PartFault.TheVariants.{Kind};
 
 use crate::fault::PartFault;
@@ -19,6 +20,7 @@ impl Part {
         ensures after { IfOk result (λ _. self.new ≡ after_of self.old ask) }
         ensures err { OnErr result (self.new ≡ self.old) }
         ensures kind { result ≡ Err Kind ↔ told_of self.old ask ≡ None }
+        ensures faults { IfErr result IsUnasked }
     {
         match self {
             Part::Cell(cell) => ask_cell(alloc, cell, ask),
@@ -37,6 +39,7 @@ fn ask_cell(alloc: Global, cell: &mut Cell, ask: Ask) -> Result<Tell, PartFault>
     ensures after { IfOk result (λ _. cell.new ≡ cell_after cell.old ask) }
     ensures err { OnErr result (cell.new ≡ cell.old) }
     ensures kind { result ≡ Err Kind ↔ cell_told cell.old ask ≡ None }
+    ensures faults { IfErr result IsUnasked }
 {
     match ask {
         Ask::Cell(ask) => match cell.step(alloc, ask) {
@@ -53,6 +56,7 @@ fn ask_log(alloc: Global, log: &mut Log, ask: Ask) -> Result<Tell, PartFault>
     ensures after { IfOk result (λ _. log.new ≡ log_after log.old ask) }
     ensures err { OnErr result (log.new ≡ log.old) }
     ensures kind { result ≡ Err Kind ↔ log_told log.old ask ≡ None }
+    ensures faults { IfErr result IsUnasked }
 {
     match ask {
         Ask::Cell(_) => Err(PartFault::Kind),
@@ -69,6 +73,7 @@ fn ask_sequencer(alloc: Global, sequencer: &mut Sequencer, ask: Ask) -> Result<T
     ensures after { IfOk result (λ _. sequencer.new ≡ sequencer_after sequencer.old ask) }
     ensures err { OnErr result (sequencer.new ≡ sequencer.old) }
     ensures kind { result ≡ Err Kind ↔ sequencer_told sequencer.old ask ≡ None }
+    ensures faults { IfErr result IsUnasked }
 {
     match ask {
         Ask::Cell(_) => Err(PartFault::Kind),

@@ -72,7 +72,7 @@ pub(crate) fn of_storage(fault: StorageFault) -> PartFault
         StorageFault::NotMyGeneration => PartFault::Refused,
         StorageFault::Hole => PartFault::Refused,
         StorageFault::Store(_) => PartFault::Part,
-        StorageFault::BadState => PartFault::Part,
+        StorageFault::BadState => PartFault::Refused,
     }
 }
 

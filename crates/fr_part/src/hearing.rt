@@ -1,12 +1,13 @@
 //! Machines that hear tells: proxies, recoverers and storage servers.
-ghost use Rattle.std.specs.Prelude.{◌≡◌, ◌≢◌, ◌↔◌, ◌==◌, ◌∷◌, [], false, find, Some, None, Err, IfOk, IfErr, OnOk, OnErr};
+ghost use Rattle.std.specs.Prelude.{◌≡◌, ◌≢◌, ◌↔◌, ◌==◌, ◌∷◌, [], false, find, Some, None, Err, IfOk, IfErr, IsTrue, OnOk, OnErr};
 ghost use Rattle.fr_proxy.specs.Proxy as batches;
 ghost use Rattle.fr_epoch.specs.Asks as asked;
 ghost use Rattle.fr_epoch.specs.Hear as heard;
-ghost use Rattle.fr_storage.specs.Course.{after_hear};
-ghost use Rattle.fr_storage.specs.Standing.{heard_if};
-ghost use Rattle.fr_part.specs.Hear.{asks_of, hears, pull_from, pull_of, standing, told_by, IsHeard, IsSubmitted, submit_fault, submits};
-ghost use Rattle.fr_part.specs.declared.fault.PartFault.TheVariants.{Kind, Part as PartOnly, Refused};
+ghost use Rattle.fr_storage.specs.Course.{after_hear, Nothing};
+ghost use Rattle.fr_storage.specs.Standing.{heard_if, heard_of};
+ghost use Rattle.fr_part.specs.Hear.{asks_of, hears, pull_from, pull_of, standing, told_by, IsBrokenOff, IsHeard, IsHearRefused, IsPartHeard, IsRefusedBy, IsSubmitted, IsUnopened, submit_fault, submits};
+ghost use Rattle.fr_part.specs.Fault.{IsUnasked};
+ghost use Rattle.fr_part.specs.declared.fault.PartFault.TheVariants.{Kind, Memory as NoMemory, Part as PartOnly, Refused};
 
 use crate::fault::{PartFault, of_storage, of_submit};
 use crate::part::Part;
@@ -29,6 +30,9 @@ impl Part {
         ensures heard { IfOk result (λ heard. IsHeard self.old from tell heard self.new) }
         ensures err { IfErr result (λ fault. fault ≢ PartOnly → self.new ≡ self.old) }
         ensures kind { result ≡ Err Kind ↔ hears self.old ≡ false }
+        ensures refused { result ≡ Err Refused ↔ IsHearRefused self.old from tell }
+        ensures part { result ≡ Err PartOnly → IsPartHeard self.old from tell self.new }
+        ensures unopened { IsUnopened self.old (told_by from tell) → result ≡ Err PartOnly }
     {
         match self {
             Part::Cell(_) => Err(PartFault::Kind),
@@ -47,7 +51,8 @@ impl Part {
         ensures submitted { IfOk result (λ heard. IsSubmitted self.old step batch heard self.new) }
         ensures err { OnErr result (self.new ≡ self.old) }
         ensures kind { result ≡ Err Kind ↔ submits self.old ≡ false }
-        ensures refused { result ≡ Err Refused → submit_fault self.old ≢ None }
+        ensures taken { OnOk result (submit_fault self.old ≡ None) }
+        ensures refused { IfErr result (λ fault. fault ≢ NoMemory → fault ≢ Kind → submit_fault self.old ≢ None) }
     {
         match self {
             Part::Cell(_) => Err(PartFault::Kind),
@@ -65,6 +70,7 @@ impl Part {
     pub fn next(&self, alloc: Global) -> Result<Vec<(NodeId, Ask)>, PartFault>
         ensures asks { IfOk result (λ asks. asks_of self.now ≡ Some asks.items) }
         ensures kind { result ≡ Err Kind ↔ asks_of self.now ≡ None }
+        ensures faults { IfErr result IsUnasked }
     {
         match self {
             Part::Cell(_) => Err(PartFault::Kind),
@@ -97,7 +103,7 @@ fn hear_proxy(
     ensures outcome { IfOk result (λ heard. heard.outcome ≡ Some (batches.outcome_of proxy.old from tell.now)) }
     ensures state { OnOk result (proxy.new ≡ batches.after_hear proxy.old from tell.now) }
     ensures err { OnErr result (proxy.new ≡ proxy.old) }
-    ensures kind { IfErr result (λ fault. fault ≢ Kind) }
+    ensures memory { IfErr result (λ fault. fault ≡ NoMemory) }
 {
     match proxy.hear(alloc, from, tell) {
         Ok((outcome, asks)) => Ok(Heard {
@@ -118,7 +124,7 @@ fn hear_recoverer(
     ensures outcome { IfOk result (λ heard. heard.outcome ≡ None) }
     ensures state { OnOk result (recoverer.new ≡ heard.after_hear recoverer.old from tell) }
     ensures err { OnErr result (recoverer.new ≡ recoverer.old) }
-    ensures kind { IfErr result (λ fault. fault ≢ Kind) }
+    ensures memory { IfErr result (λ fault. fault ≡ NoMemory) }
 {
     match recoverer.hear(alloc, from, tell) {
         Ok(asks) => Ok(Heard {
@@ -153,16 +159,46 @@ fn hear_storage(
     ensures state { OnOk result (standing storage.new ≡ after_hear (standing storage.old) (told_by from tell)) }
     ensures err { IfErr result (λ fault. fault ≢ PartOnly → storage.new ≡ storage.old) }
     ensures kind { IfErr result (λ fault. fault ≢ Kind) }
+    ensures refused { result ≡ Err Refused ↔ IsRefusedBy storage.old (told_by from tell) }
+    ensures part { result ≡ Err PartOnly → IsBrokenOff storage.old (told_by from tell) storage.new }
+    ensures unopened { IsTrue storage.old.failed → told_by from tell ≢ Nothing → result ≡ Err PartOnly }
 {
-    if let Some(answer) = told_by(from, tell) {
-        if let Err(fault) = storage.follow(alloc, answer) {
-            return Err(of_storage(fault));
-        }
+    match told_by(from, tell) {
+        Some(answer) => follow_in(alloc, storage, answer),
+        None => Ok(nothing_asked(alloc)),
     }
-    Ok(Heard {
+}
+
+/// Has a storage server follow what a log told it. It is opened again where its store refused a call.
+fn follow_in(
+    alloc: Global,
+    storage: &mut Storage<MapStore>,
+    answer: LogAnswer,
+) -> Result<Heard, PartFault>
+    ensures asks { IfOk result (λ heard. heard.asks.items ≡ []) }
+    ensures outcome { IfOk result (λ heard. heard.outcome ≡ None) }
+    ensures state { OnOk result (standing storage.new ≡ after_hear (standing storage.old) (heard_of answer)) }
+    ensures err { IfErr result (λ fault. fault ≢ PartOnly → storage.new ≡ storage.old) }
+    ensures kind { IfErr result (λ fault. fault ≢ Kind) }
+    ensures refused { result ≡ Err Refused ↔ IsRefusedBy storage.old (heard_of answer) }
+    ensures part { result ≡ Err PartOnly → IsBrokenOff storage.old (heard_of answer) storage.new }
+    ensures unopened { IsTrue storage.old.failed → result ≡ Err PartOnly }
+{
+    match storage.follow(alloc, answer) {
+        Ok(()) => Ok(nothing_asked(alloc)),
+        Err(fault) => Err(of_storage(fault)),
+    }
+}
+
+/// That a machine asks nothing new, and says nothing of a batch.
+fn nothing_asked(alloc: Global) -> Heard
+    ensures asks { result.asks.items ≡ [] }
+    ensures outcome { result.outcome ≡ None }
+{
+    Heard {
         asks: Vec::new(alloc),
         outcome: None,
-    })
+    }
 }
 
 fn submit_to(alloc: Global, proxy: &mut Proxy, step: Step, batch: Batch) -> Result<Heard, PartFault>
@@ -171,7 +207,8 @@ fn submit_to(alloc: Global, proxy: &mut Proxy, step: Step, batch: Batch) -> Resu
     ensures state { OnOk result (proxy.new ≡ batches.submitted proxy.old step batch) }
     ensures err { OnErr result (proxy.new ≡ proxy.old) }
     ensures kind { IfErr result (λ fault. fault ≢ Kind) }
-    ensures refused { result ≡ Err Refused → batches.submit_fault proxy.old ≢ None }
+    ensures taken { OnOk result (batches.submit_fault proxy.old ≡ None) }
+    ensures refused { IfErr result (λ fault. fault ≢ NoMemory → batches.submit_fault proxy.old ≢ None) }
 {
     let sequencer = NodeId::Sequencer {
         epoch: proxy.epoch(),

@@ -1,11 +1,12 @@
 //! A machine with what it said in its last turn.
-ghost use Rattle.std.specs.Prelude.{◌≡◌, ◌≢◌, ◌↔◌, false, Some, None, Err, IfErr, OnOk, OnErr};
-ghost use Rattle.fr_part.specs.Hear.{hears, submits};
+ghost use Rattle.std.specs.Prelude.{◌≡◌, ◌≢◌, ◌↔◌, false, Some, None, Err, IfErr, IsSome, OnOk, OnErr};
+ghost use Rattle.fr_part.specs.Fault.{IsUnasked};
+ghost use Rattle.fr_part.specs.Hear.{hears, submit_fault, submits, told_by, IsHearRefused, IsPartHeard, IsUnopened};
 ghost use Rattle.fr_part.specs.Seat.{seat_after, HearsIn, SubmitsIn};
 ghost use Rattle.fr_part.specs.Turn.{told_of};
 ghost use Rattle.fr_part.specs.declared.seat.Seat.{Seat};
 ghost use Rattle.fr_part.specs.declared.said.Said.TheVariants as said;
-ghost use Rattle.fr_part.specs.declared.fault.PartFault.TheVariants.{Kind, Part as PartOnly};
+ghost use Rattle.fr_part.specs.declared.fault.PartFault.TheVariants.{Kind, Memory as NoMemory, Part as PartOnly, Refused};
 
 use crate::fault::PartFault;
 use crate::part::Part;
@@ -41,7 +42,9 @@ impl Seat {
     pub fn ask(&mut self, alloc: Global, ask: Ask) -> Result<(), PartFault>
         ensures after { OnOk result (self.new ≡ seat_after self.old ask) }
         ensures err { OnErr result (self.new ≡ self.old) }
+        ensures mine { OnOk result (IsSome (told_of self.old.part ask)) }
         ensures kind { result ≡ Err Kind ↔ told_of self.old.part ask ≡ None }
+        ensures faults { IfErr result IsUnasked }
     {
         let tell = self.part.ask(alloc, ask)?;
         self.said = Said::Told(tell);
@@ -53,6 +56,9 @@ impl Seat {
         ensures heard { OnOk result (HearsIn self.old from tell self.new) }
         ensures err { IfErr result (λ fault. fault ≢ PartOnly → self.new ≡ self.old) }
         ensures kind { result ≡ Err Kind ↔ hears self.old.part ≡ false }
+        ensures refused { result ≡ Err Refused ↔ IsHearRefused self.old.part from tell }
+        ensures part { result ≡ Err PartOnly → (self.new.said ≡ self.old.said) × IsPartHeard self.old.part from tell self.new.part }
+        ensures unopened { IsUnopened self.old.part (told_by from tell) → result ≡ Err PartOnly }
     {
         let heard = self.part.hear(alloc, from, tell)?;
         self.said = Said::Heard(heard);
@@ -64,6 +70,8 @@ impl Seat {
         ensures submitted { OnOk result (SubmitsIn self.old step batch self.new) }
         ensures err { OnErr result (self.new ≡ self.old) }
         ensures kind { result ≡ Err Kind ↔ submits self.old.part ≡ false }
+        ensures taken { OnOk result (submit_fault self.old.part ≡ None) }
+        ensures refused { IfErr result (λ fault. fault ≢ NoMemory → fault ≢ Kind → submit_fault self.old.part ≢ None) }
     {
         let heard = self.part.submit(alloc, step, batch)?;
         self.said = Said::Heard(heard);

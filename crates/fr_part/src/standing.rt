@@ -1,9 +1,10 @@
 //! Where machines stand.
-ghost use Rattle.std.specs.Prelude.{◌≡◌, ◌≢◌, ◌↔◌, Ok, Err, None, Some, IfOk, IfErr};
+ghost use Rattle.std.specs.Prelude.{◌≡◌, ◌↔◌, Ok, Err, None, Some, IfOk, IfErr};
 ghost use Rattle.fr_run.specs.Last as last;
+ghost use Rattle.fr_part.specs.Fault.{IsUnasked};
 ghost use Rattle.fr_part.specs.Hear.{standing};
 ghost use Rattle.fr_part.specs.Last.{last_of};
-ghost use Rattle.fr_part.specs.declared.fault.PartFault.TheVariants.{Kind};
+ghost use Rattle.fr_part.specs.declared.fault.PartFault.TheVariants.{Kind, Memory as NoMemory};
 
 use crate::fault::PartFault;
 use crate::part::Part;
@@ -20,6 +21,7 @@ impl Part {
     pub fn last(&self, alloc: Global) -> Result<Last, PartFault>
         ensures last { IfOk result (λ told. last_of self.now ≡ Some told) }
         ensures kind { result ≡ Err Kind ↔ last_of self.now ≡ None }
+        ensures faults { IfErr result IsUnasked }
     {
         match self {
             Part::Cell(cell) => told(cell.last(alloc)),
@@ -35,7 +37,7 @@ impl Part {
 
 fn told(last: Result<Last, Memory>) -> Result<Last, PartFault>
     ensures ok { IfOk result (λ told. last ≡ Ok told) }
-    ensures err { IfErr result (λ fault. fault ≢ Kind) }
+    ensures err { IfErr result (λ fault. fault ≡ NoMemory) }
 {
     match last {
         Ok(last) => Ok(last),

@@ -1,10 +1,10 @@
 //! Stores in memory.
-ghost use Rattle.std.specs.Prelude.{◌≡◌, ◌↔◌, false, Err, IfOk, OnOk, OnErr};
+ghost use Rattle.std.specs.Prelude.{◌≡◌, ◌≢◌, ◌↔◌, ◌<◌, ◌≤◌, false, Err, IfOk, IfErr, OnOk, OnErr};
 ghost use Rattle.std.specs.Option.{option_map};
 ghost use Rattle.std.specs.FinMap as map;
 ghost use Rattle.fr_undo.specs.Undo.{extended, undone, forgotten};
 ghost use Rattle.fr_part.specs.Store.{is_store, IfStore, BecomesStore};
-ghost use Rattle.fr_part.specs.declared.fault.PartFault.TheVariants.{Kind};
+ghost use Rattle.fr_part.specs.declared.fault.PartFault.TheVariants.{Kind, Part as PartOnly, Refused};
 
 use crate::fault::{PartFault, of_store};
 use crate::part::Part;
@@ -20,6 +20,8 @@ impl Part {
         ensures ok { OnOk result (BecomesStore self.old self.new (λ s. extended s version batch.now)) }
         ensures err { OnErr result (self.new ≡ self.old) }
         ensures kind { result ≡ Err Kind ↔ is_store self.old ≡ false }
+        ensures refused { result ≡ Err Refused ↔ IfStore self.old (λ s. version ≤ s.applied) }
+        ensures whole { result ≢ Err PartOnly }
     {
         match self {
             Part::Store(store) => match store.apply(alloc, version, batch) {
@@ -35,6 +37,8 @@ impl Part {
         ensures ok { OnOk result (BecomesStore self.old self.new (λ s. undone s version)) }
         ensures err { OnErr result (self.new ≡ self.old) }
         ensures kind { result ≡ Err Kind ↔ is_store self.old ≡ false }
+        ensures refused { result ≡ Err Refused ↔ IfStore self.old (λ s. version < s.floor) }
+        ensures whole { result ≢ Err PartOnly }
     {
         match self {
             Part::Store(store) => match store.undo_to(alloc, version) {
@@ -51,6 +55,8 @@ impl Part {
         ensures ok { OnOk result (BecomesStore self.old self.new (λ s. forgotten s version)) }
         ensures err { OnErr result (self.new ≡ self.old) }
         ensures kind { result ≡ Err Kind ↔ is_store self.old ≡ false }
+        ensures refused { result ≡ Err Refused ↔ IfStore self.old (λ s. s.applied < version) }
+        ensures whole { result ≢ Err PartOnly }
     {
         match self {
             Part::Store(store) => match store.forget_through(alloc, version) {
@@ -65,6 +71,7 @@ impl Part {
     pub fn value_at(&self, key: &Bytes) -> Result<Option<&Bytes>, PartFault>
         ensures value { IfOk result (λ value. IfStore self.now (λ s. option_map (λ bytes. bytes.now) value ≡ map.get s.contents key.now)) }
         ensures kind { result ≡ Err Kind ↔ is_store self.now ≡ false }
+        ensures faults { IfErr result (λ fault. fault ≡ Kind) }
     {
         match self {
             Part::Store(store) => Ok(store.value_at(key)),

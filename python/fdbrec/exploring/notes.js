@@ -80,6 +80,8 @@ Object.assign(Run.prototype, {
     const { node, at } = entry;
     const batch = { number: this.batches.length + 1, node, request: node.machine.request, step: what.step, batch: what.batch, at };
     node.batch = Object.assign(batch, { given: null, version: null, numbered: null, held: [], outcome: null, ended: null, applied: [], undone: [] });
+    // (until the picture shows anew what was read: a moment between may draw it already)
+    batch.fate = "under way";
     this.batches.push(batch);
     this.issue(node, at);
   },

@@ -7,12 +7,13 @@ from .processes import Trouble, spoken
 
 # what a tell and an ask are called of the nodes that are asked
 ASKED = {"cell": "cell", "log": "log", "sequencer": "seq"}
-# the members of each answer; wants of a storage server come with `wants` alone
+# the members of each answer; wants of a storage server come with `wants` alone, and it may say `stands` for `last`
 MEMBERS = {"init": "last", "last": "last", "ask": "entry last", "hear": "entry last wants", "back": "entries last"}
 MEMBERS |= {"begin": "entry last wants", "submit": "entry last wants", "wants": "wants"}
 ACTS = {"ask": "asked", "hear": "heard", "begin": "begun", "submit": "submitted"}
 WANTS = forms.every(forms.array(forms.NODE, forms.part("audit.json#/$defs/ask", forms.ASK)))
 ERROR = forms.members(code=forms.number(0, 2**31 - 1), text=("text",))
+STANDS = forms.one_of(storage=forms.members(epoch=forms.EPOCH, floor=forms.VERSION, version=forms.VERSION))
 LOST = ("Outballoted", "BadState", "Inconsistent", "TooMany", "NotLater", "TwoValues", "Spent")
 PHASE = re.compile(rf"reading|locking|copying|writing|chosen pev (\d{{1,19}}) rv (\d{{1,19}})|lost ({'|'.join(LOST)})")
 PHASES = ", wanted reading, locking, copying, writing, chosen pev P rv R, or lost WHY"
@@ -66,6 +67,8 @@ def look(it, given, body):
     if word == "init" and body.get("node") != it.name:
         trouble(("node",), body.get("node"), f", wanted that of {it.text}")
     for name, form in wanted(word, it.kind).items():
+        if name == "last" and may_stand(it, given) and "stands" in body:
+            name, form = "stands", STANDS
         if name not in body:
             trouble((), body, f" without the member {name}")
         lack = values.mistake(body[name], form, (name,))
@@ -73,6 +76,11 @@ def look(it, given, body):
             trouble(*lack)
     for lack in more(it, given, body):
         trouble(*lack)
+
+
+def may_stand(it, given):
+    """Whether the answer to a line may say where the node stands by less than its last state."""
+    return it.kind == "storage" and given["type"] != "last" and not given.get("last")
 
 
 def more(it, given, body):

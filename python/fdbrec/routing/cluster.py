@@ -115,8 +115,8 @@ class Cluster:
                 self.outcome(it, entry["act"]["heard"]["outcome"])
         if it.kind == "recoverer":
             self.recover(it, was)
-        elif it.kind == "storage" and was and it.last:
-            self.stand(it, was["storage"], it.last["storage"])
+        elif it.kind == "storage" and was and it.stands:
+            self.stand(it, was["storage"], it.stands["storage"])
 
     def outcome(self, it, outcome):
         if "waiting" not in outcome:
@@ -133,7 +133,7 @@ class Cluster:
                 self.ends[ballot] = self.opened(it, ask["log"]["lock"]["epoch"])
             if word == "seed" and self.members.find(to) is None:
                 self.seeded(it, to["log"])
-        phase = it.last["recoverer"]["phase"]
+        phase = it.stands["recoverer"]["phase"]
         if was is None or phase == was["recoverer"]["phase"]:
             return
         self.counts["lost"] += phase.startswith("lost")

@@ -6,6 +6,7 @@ from . import answers
 from .processes import Process, Trouble, spoken
 
 ENTERING = ("ask", "hear", "submit")  # the lines that are given again after a kill
+ANSWERED = ("init", "hear", "back")  # the lines that a storage server answers by where it stands
 FILED = ("cell", "log", "storage")
 
 
@@ -16,7 +17,9 @@ class Member:
         ((self.kind, self.its),) = name.items()
         self.name, self.text, self.words, self.room = name, spoken(name), words, room
         self.has_files = has_files and self.kind in FILED
-        self.entries, self.last, self.wants = [], None, []
+        self.entries, self.wants = [], []
+        self.last = None  # its last state, if its last answer has that
+        self.stands = None  # where it stands by its last answer: its last state, or that without rows
         self.process, self.state = None, "down"
         self.left = []  # what was left without an answer at a kill
         self.is_back = True  # whether `back` was answered since
@@ -34,11 +37,11 @@ class Member:
 
     def is_there(self):
         """Whether it came to be: it said where it stands, and a recoverer that it begins."""
-        return self.last is not None and (self.kind != "recoverer" or bool(self.entries))
+        return self.stands is not None and (self.kind != "recoverer" or bool(self.entries))
 
     def version(self):
         """The version that a storage server had applied by its last answer."""
-        return self.last["storage"]["version"] if self.last else 0
+        return self.stands["storage"]["version"] if self.stands else 0
 
     def journal(self):
         return {"entries": self.entries, "last": self.last, "node": self.name}
@@ -77,6 +80,8 @@ class Members:
         """Gives a line whose answer is taken later. What was left at a kill comes first."""
         if not it.is_back or not it.process.has_room(body):
             self.collect(it)
+        if it.kind == "storage" and not it.has_files and body["type"] in ANSWERED:
+            body = body | {"last": True}  # (once it is killed nothing but its last answer says where it stood)
         it.process.give(body)
 
     def collect(self, it):
@@ -95,7 +100,9 @@ class Members:
             self.failed(it, given, body)
             return
         entries = body.get("entries", [body["entry"]] if "entry" in body else [])
-        was, it.last = it.last, body.get("last", it.last)
+        was, stands = it.stands, body.get("last", body.get("stands"))
+        if stands is not None:
+            it.stands, it.last = stands, body.get("last")
         it.wants = body.get("wants", it.wants)
         for entry in entries:
             self.enter(it, entry)

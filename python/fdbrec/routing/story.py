@@ -11,7 +11,7 @@ TRYING = 2  # so many recoverers contend, beside those that nobody hears any mor
 
 
 def phase_of(it):
-    return it.last["recoverer"]["phase"] if it.last else "reading"
+    return it.stands["recoverer"]["phase"] if it.stands else "reading"
 
 
 class Story(Cluster):
@@ -69,7 +69,7 @@ class Story(Cluster):
         """Whether the logs of the newest epoch hold its mark, but for those that are gone."""
         rv = self.chosen.get(self.newest, 0)
         logs = [it for it in self.members.of("log") if it.its["epoch"] == self.newest and it.state != "gone"]
-        return all(it.last and it.last["log"]["durable"] > rv for it in logs)
+        return all(it.stands and it.stands["log"]["durable"] > rv for it in logs)
 
     def do_ask(self, dice, _):
         """Of a node that has answered all its lines some of the asks fly that it wanted then."""
@@ -216,9 +216,10 @@ class Story(Cluster):
 
     def is_level(self):
         """Whether each storage server that is up has come to the newest epoch, and to what its logs hold."""
-        logs = [it.last["log"] for it in self.members.of("log") if it.its["epoch"] == self.newest and it.state == "up"]
+        own = [it for it in self.members.of("log") if it.its["epoch"] == self.newest and it.state == "up"]
+        logs = [it.stands["log"] for it in own]
         most = max([it["durable"] for it in logs], default=0)
-        stands = [it.last["storage"] for it in self.members.of("storage") if it.state == "up"]
+        stands = [it.stands["storage"] for it in self.members.of("storage") if it.state == "up"]
         return all(it["epoch"] == self.newest and it["version"] >= most for it in stands)
 
     def exchange(self, asking):

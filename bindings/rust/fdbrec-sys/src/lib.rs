@@ -30,9 +30,9 @@ pub const FUTURE_VERSION: u32 = 14;
 pub struct fdbrec_proxy_numbers {
     pub epoch: u64,
     pub known: u64,
-    pub number: u8,
-    pub m: u8,
-    pub k: u8,
+    pub number: u64,
+    pub m: u64,
+    pub k: u64,
 }
 
 /// The numbers of a push of one tag.
@@ -43,7 +43,7 @@ pub struct fdbrec_push_numbers {
     pub prev: u64,
     pub version: u64,
     pub known: u64,
-    pub tag: u8,
+    pub tag: u64,
 }
 
 /// The numbers of a peek.
@@ -52,8 +52,8 @@ pub struct fdbrec_push_numbers {
 pub struct fdbrec_peek_numbers {
     pub epoch: u64,
     pub after: u64,
-    pub tag: u8,
-    pub most: u8,
+    pub tag: u64,
+    pub most: u64,
 }
 
 /// A key of a shard, and the version at which it is read. No pointer is null, of whichever length.
@@ -71,7 +71,7 @@ pub struct fdbrec_key_at {
 
 extern "C" {
     pub fn fdbrec_cell_new(of: *mut *mut fdbrec_part) -> u32;
-    pub fn fdbrec_log_new(of: *mut *mut fdbrec_part, epoch: u64, index: u8, m: u8, k: u8) -> u32;
+    pub fn fdbrec_log_new(of: *mut *mut fdbrec_part, epoch: u64, index: u64, m: u64, k: u64) -> u32;
     pub fn fdbrec_sequencer_new(of: *mut *mut fdbrec_part, epoch: u64, last: u64) -> u32;
     pub fn fdbrec_proxy_new(
         of: *mut *mut fdbrec_part,
@@ -82,13 +82,13 @@ extern "C" {
     pub fn fdbrec_recoverer_new(
         of: *mut *mut fdbrec_part,
         ballot: u64,
-        coordinators: u8,
+        coordinators: u64,
         shards: *const u8,
         shards_len: usize,
-        m: u8,
-        k: u8,
+        m: u64,
+        k: u64,
     ) -> u32;
-    pub fn fdbrec_storage_new(of: *mut *mut fdbrec_part, tag: u8, state: *const u8, state_len: usize) -> u32;
+    pub fn fdbrec_storage_new(of: *mut *mut fdbrec_part, tag: u64, state: *const u8, state_len: usize) -> u32;
     pub fn fdbrec_store_new(of: *mut *mut fdbrec_part) -> u32;
     pub fn fdbrec_ask(
         of: *mut *mut fdbrec_part,
@@ -183,5 +183,6 @@ extern "C" {
         len: *mut usize,
     ) -> u32;
     pub fn fdbrec_audit(script: *const u8, script_len: usize, out: *mut u8, out_len: usize, len: *mut usize) -> u32;
+    pub fn fdbrec_version(out: *mut u8, out_len: usize, len: *mut usize) -> u32;
     pub fn fdbrec_free(of: *mut *mut fdbrec_part);
 }

@@ -26,7 +26,7 @@ mod log;
 mod machines;
 mod store;
 
-pub use audit::audit;
+pub use audit::{audit, version};
 pub use batch::{Batch, Combine, Mutation, Mutations};
 pub use fault::{Fault, Result};
 pub use handle::Machine;

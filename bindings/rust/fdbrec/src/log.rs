@@ -34,6 +34,7 @@ pub struct Records<'a> {
 impl Log {
     /// Log `index` of a generation of `m` logs, on `k` of which each tag stands. It was never asked.
     pub fn new(epoch: u64, index: u8, m: u8, k: u8) -> Result<Self> {
+        let [index, m, k] = [index, m, k].map(u64::from);
         // SAFETY: the handle is new, and its own.
         Handle::new(|at| unsafe { sys::fdbrec_log_new(at, epoch, index, m, k) }).map(Log)
     }
@@ -41,7 +42,7 @@ impl Log {
     /// Pushes a version with the batch of one tag. The log tells which version it holds, or refuses.
     pub fn push(&mut self, epoch: u64, prev: u64, version: u64, known: u64, tag: u8, batch: &Batch) -> Result<u64> {
         let (bytes, mut held) = (batch.as_bytes(), 0);
-        let numbers = sys::fdbrec_push_numbers { epoch, prev, version, known, tag };
+        let numbers = sys::fdbrec_push_numbers { epoch, prev, version, known, tag: tag.into() };
         // SAFETY: `numbers` and `held` are this call's own, and the bytes are another one's.
         self.0.call(|at| unsafe { sys::fdbrec_log_push(at, &numbers, bytes.as_ptr(), bytes.len(), &mut held) })?;
         Ok(held)
@@ -50,7 +51,7 @@ impl Log {
     /// Gives records of a tag above a version, at most so many, or refuses.
     pub fn peek(&mut self, epoch: u64, tag: u8, after: u64, most: u8) -> Result<Peeked<'_>> {
         let (mut upto, mut known) = (0, 0);
-        let numbers = sys::fdbrec_peek_numbers { epoch, after, tag, most };
+        let numbers = sys::fdbrec_peek_numbers { epoch, after, tag: tag.into(), most: most.into() };
         // SAFETY: `numbers` is this call's own, and what is written to is each time this call's own, or the handle's.
         let left = self.0.bytes(
             |at, room| unsafe {

@@ -110,6 +110,7 @@ impl Proxy {
     /// A proxy that took nothing yet, of a generation of `m` logs with each tag on `k`. `known` is through which version
     /// all is committed; `shards` is the list of the keys, in hex, at which the shards begin.
     pub fn new(epoch: u64, number: u8, m: u8, k: u8, known: u64, shards: &str) -> Result<Self> {
+        let [number, m, k] = [number, m, k].map(u64::from);
         let numbers = sys::fdbrec_proxy_numbers { epoch, known, number, m, k };
         // SAFETY: the handle is new, and its own, as are the numbers.
         Handle::new(|at| unsafe { sys::fdbrec_proxy_new(at, &numbers, shards.as_ptr(), shards.len()) }).map(Proxy)
@@ -132,6 +133,7 @@ impl Recoverer {
     /// generation to open; without it, that of the one before.
     pub fn new(ballot: u64, coordinators: u8, shards: &str, shape: Option<(u8, u8)>) -> Result<Self> {
         let (m, k) = shape.unwrap_or((0, 0));
+        let [coordinators, m, k] = [coordinators, m, k].map(u64::from);
         // SAFETY: the handle is new, and its own.
         Handle::new(|at| unsafe {
             sys::fdbrec_recoverer_new(at, ballot, coordinators, shards.as_ptr(), shards.len(), m, k)
@@ -144,7 +146,7 @@ impl Storage {
     /// The storage server of a tag, of the last generation of a coordinated state, with nothing applied.
     pub fn new(tag: u8, state: &str) -> Result<Self> {
         // SAFETY: the handle is new, and its own.
-        Handle::new(|at| unsafe { sys::fdbrec_storage_new(at, tag, state.as_ptr(), state.len()) }).map(Storage)
+        Handle::new(|at| unsafe { sys::fdbrec_storage_new(at, tag.into(), state.as_ptr(), state.len()) }).map(Storage)
     }
 
     /// The value that a key had at a version, if it had one. `shard` is that of the server's tag: the key where it

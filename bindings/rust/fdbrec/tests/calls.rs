@@ -1,6 +1,6 @@
 //! Calls whose answers are long, calls that are not done, and machines that go to another thread.
 use fdbrec::{
-    audit, Asked, Batch, Cell, Fault, Hears, Log, Machine, Mutation, Mutations, Promise, Proxy, Storage, Store,
+    audit, version, Asked, Batch, Cell, Fault, Hears, Log, Machine, Mutation, Mutations, Promise, Proxy, Storage, Store,
 };
 use std::thread;
 
@@ -14,6 +14,11 @@ fn begun() -> Log {
     let held = log.ask(&format!(r#"{{"log":{{"push":{mark}}}}}"#)).unwrap();
     assert_eq!(held, r#"{"log":{"held":{"version":1}}}"#);
     log
+}
+
+#[test]
+fn the_version_is_that_of_the_crate() {
+    assert_eq!(version().as_deref(), Ok(env!("CARGO_PKG_VERSION")));
 }
 
 #[test]

@@ -1,10 +1,12 @@
 //! Bytes that go into the memory of a caller.
-ghost use Rattle.std.specs.Prelude.{◌≡◌, ◌<◌, false, true, length, take, IfOk};
-ghost use Rattle.fr_part.specs.Answers.{IsGiven, IsJson, IsShort};
-ghost use Rattle.fr_part.specs.Calls.{is_told, keeps, refuses};
+ghost use Rattle.std.specs.Prelude.{◌≡◌, ◌<◌, ◌↔◌, ◌∷◌, [], false, true, length, take, Err, IfOk, IfErr, if◌then◌else◌};
+ghost use Rattle.fr_part.specs.Answers.{IsGiven, IsJson, IsShort, room_status};
+ghost use Rattle.fr_part.specs.Calls.{IsAmong, is_told};
+ghost use Rattle.fr_part.specs.Fault.{IsUnasked};
+ghost use Rattle.fr_part.specs.declared.fault.PartFault.TheVariants.{Kind};
 
 use crate::calls::lines::write_said;
-use crate::calls::status::{KIND, MEMORY, OK, SHORT, UNTOLD};
+use crate::calls::status::{OK, SHORT, UNTOLD, status_of};
 use crate::fault::PartFault;
 use crate::said::Said;
 use std::alloc::Global;
@@ -13,6 +15,7 @@ use std::alloc::Global;
 pub fn give(bytes: &[u8], out: &mut [u8], len: &mut usize) -> bool
     ensures given { result ≡ true → IsGiven bytes.now out.new len.new }
     ensures short { result ≡ false → IsShort bytes.now out.new len.new }
+    ensures fits { room_status bytes.now out.old ≡ (if result then 0 else 3) }
 {
     let size = bytes.len();
     *len = size;
@@ -27,9 +30,8 @@ pub fn give(bytes: &[u8], out: &mut [u8], len: &mut usize) -> bool
 pub fn give_said(alloc: Global, said: &Said, out: &mut [u8], len: &mut usize) -> u32
     ensures ok { result ≡ 0 → IsJson (take len.new out.new) }
     ensures short { result ≡ 3 → length out.new < len.new }
-    ensures done { keeps result ≡ false }
     ensures told { is_told result ≡ true }
-    ensures unrefused { refuses result ≡ false }
+    ensures among { IsAmong (0 ∷ 3 ∷ 8 ∷ []) result }
 {
     match write_said(alloc, said) {
         Ok(text) => if give(&text, out, len) { OK } else { SHORT },
@@ -42,10 +44,11 @@ pub fn give_line(line: Result<Vec<u8>, PartFault>, out: &mut [u8], len: &mut usi
     requires json { IfOk line (λ text. IsJson text.items) }
     ensures ok { result ≡ 0 → IsJson (take len.new out.new) }
     ensures short { result ≡ 3 → length out.new < len.new }
+    ensures kind { result ≡ 4 ↔ line ≡ Err Kind }
+    ensures among { IfErr line IsUnasked → IsAmong (0 ∷ 1 ∷ 3 ∷ 4 ∷ []) result }
 {
     match line {
         Ok(text) => if give(&text, out, len) { OK } else { SHORT },
-        Err(PartFault::Memory) => MEMORY,
-        Err(_) => KIND,
+        Err(fault) => status_of(fault),
     }
 }

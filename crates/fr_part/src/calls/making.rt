@@ -1,14 +1,16 @@
 //! Machines made of numbers and texts that are within their limits.
-ghost use Rattle.std.specs.Prelude.{◌≡◌, ◌≢◌, IfOk, IfErr};
+ghost use Rattle.std.specs.Prelude.{◌≡◌, ◌<◌, ◌↔◌, ◌∷◌, [], true, Err, IfOk, IfErr, IsErr};
 ghost use Rattle.fr_log.specs.LogState.{fresh_log};
 ghost use Rattle.fr_proxy.specs.Sequencer.{new_sequencer};
 ghost use Rattle.fr_part.specs.declared.part.Part.TheVariants as part;
-ghost use Rattle.fr_part.specs.Made.{IsProxyMade, IsRecovererMade, IsStorageMade};
+ghost use Rattle.fr_part.specs.Made.{IsNoLog, IsNoProxy, IsNoRecoverer, IsNoSequencer, IsProxyMade, IsRecovererMade, IsStorageMade, IsUnmade};
+ghost use Rattle.fr_part.specs.Calls.{IsAmong};
 
 use crate::calls::lines::{read_begins, read_coordinated};
+use crate::calls::numbers::{byte, shape, tag};
 use crate::calls::status::{BAD_TEXT, LIMIT, MEMORY};
 use crate::part::Part;
-use fr_base::{Ballot, Epoch, LogId, Shape, Tag, Version};
+use fr_base::{Ballot, Epoch, LogId, Version};
 use fr_epoch::Recoverer;
 use fr_forms::ScriptFault;
 use fr_log::Log;
@@ -24,29 +26,38 @@ use std::alloc::Global;
 pub struct ProxyNumbers {
     pub epoch: u64,
     pub known: u64,
-    pub number: u8,
-    pub m: u8,
-    pub k: u8,
+    pub number: u64,
+    pub m: u64,
+    pub k: u64,
 }
 
 /// A log that was never asked. An error is the status of a call that makes nothing.
-pub fn make_log(alloc: Global, epoch: u64, index: u8, m: u8, k: u8) -> Result<Part, u32>
+pub fn make_log(alloc: Global, epoch: u64, index: u64, m: u64, k: u64) -> Result<Part, u32>
     ensures made { IfOk result (λ p. p ≡ part.Log (fresh_log epoch index m k)) }
-    ensures err { IfErr result (λ status. status ≢ 0) }
+    ensures err { IfErr result (λ status. status ≡ 6) }
+    ensures limit { IsErr result ↔ IsNoLog epoch index m k }
 {
     let Some(epoch) = Epoch::new(epoch) else {
         return Err(LIMIT);
     };
-    if Shape::new(m, k).is_none() || index >= m {
+    let Some(index) = byte(index) else {
+        return Err(LIMIT);
+    };
+    let Some(shape) = shape(m, k) else {
+        return Err(LIMIT);
+    };
+    if index >= shape.m() {
         return Err(LIMIT);
     }
-    Ok(Part::Log(Log::new(alloc, LogId { epoch, index }, m, k)))
+    let id = LogId { epoch, index };
+    Ok(Part::Log(Log::new(alloc, id, shape.m(), shape.k())))
 }
 
 /// A sequencer that gave nothing yet. An error is as that of [`make_log`].
 pub fn make_sequencer(alloc: Global, epoch: u64, last: u64) -> Result<Part, u32>
     ensures made { IfOk result (λ p. p ≡ part.Sequencer (new_sequencer epoch last)) }
-    ensures err { IfErr result (λ status. status ≢ 0) }
+    ensures err { IfErr result (λ status. status ≡ 6) }
+    ensures limit { IsErr result ↔ IsNoSequencer epoch last }
 {
     let Some(epoch) = Epoch::new(epoch) else {
         return Err(LIMIT);
@@ -60,25 +71,36 @@ pub fn make_sequencer(alloc: Global, epoch: u64, last: u64) -> Result<Part, u32>
 /// A proxy that took nothing yet. An error is as that of [`make_log`].
 pub fn make_proxy(alloc: Global, at: &ProxyNumbers, shards: &[u8]) -> Result<Part, u32>
     ensures made { IfOk result (λ p. IsProxyMade at.now p) }
-    ensures err { IfErr result (λ status. status ≢ 0) }
+    ensures err { IfErr result IsUnmade }
+    ensures limit { result ≡ Err 6 ↔ IsNoProxy at.now }
 {
-    let ProxyNumbers { number, m, k, .. } = *at;
     let Some(epoch) = Epoch::new(at.epoch) else {
         return Err(LIMIT);
     };
     let Some(known) = Version::new(at.known) else {
         return Err(LIMIT);
     };
-    if number > 15 || Shape::new(m, k).is_none() {
+    let Some(number) = byte(at.number) else {
+        return Err(LIMIT);
+    };
+    if number > 15 {
         return Err(LIMIT);
     }
-    let map = read_map(alloc, shards)?;
-    Ok(Part::Proxy(Proxy::new(epoch, number, m, k, map, known)))
+    let Some(shape) = shape(at.m, at.k) else {
+        return Err(LIMIT);
+    };
+    match read_map(alloc, shards) {
+        Ok(map) => {
+            let proxy = Proxy::new(epoch, number, shape.m(), shape.k(), map, known);
+            Ok(Part::Proxy(proxy))
+        }
+        Err(status) => Err(status),
+    }
 }
 
 /// Reads the map of shards that a line says.
 fn read_map(alloc: Global, shards: &[u8]) -> Result<ShardMap, u32>
-    ensures err { IfErr result (λ status. status ≢ 0) }
+    ensures err { IfErr result (λ status. IsAmong (1 ∷ 7 ∷ []) status) }
 {
     let begins = match read_begins(alloc, shards) {
         Ok(begins) => begins,
@@ -96,35 +118,42 @@ fn read_map(alloc: Global, shards: &[u8]) -> Result<ShardMap, u32>
 pub fn make_recoverer(
     alloc: Global,
     ballot: u64,
-    coordinators: u8,
+    coordinators: u64,
     shards: &[u8],
-    m: u8,
-    k: u8,
+    m: u64,
+    k: u64,
 ) -> Result<Part, u32>
     ensures made { IfOk result (λ p. IsRecovererMade ballot coordinators m k p) }
-    ensures err { IfErr result (λ status. status ≢ 0) }
+    ensures err { IfErr result IsUnmade }
+    ensures limit { result ≡ Err 6 ↔ IsNoRecoverer ballot coordinators m k }
 {
     let Some(ballot) = Ballot::new(ballot) else {
+        return Err(LIMIT);
+    };
+    let Some(coordinators) = byte(coordinators) else {
         return Err(LIMIT);
     };
     if ballot.epoch().is_none() || coordinators == 0 || coordinators > 9 {
         return Err(LIMIT);
     }
-    let shape = Shape::new(m, k);
+    let shape = shape(m, k);
     if shape.is_none() && (m != 0 || k != 0) {
         return Err(LIMIT);
     }
-    let map = read_map(alloc, shards)?;
-    Ok(Part::Recoverer(Recoverer::begin(alloc, ballot, coordinators, map, shape)))
+    match read_map(alloc, shards) {
+        Ok(map) => Ok(Part::Recoverer(Recoverer::begin(alloc, ballot, coordinators, map, shape))),
+        Err(status) => Err(status),
+    }
 }
 
 /// A storage server that begins in a state, over a store in which nothing was applied. An error is as that of
 /// [`make_log`].
-pub fn make_storage(alloc: Global, tag: u8, state: &[u8]) -> Result<Part, u32>
-    ensures made { IfOk result (λ p. IsStorageMade tag p) }
-    ensures err { IfErr result (λ status. status ≢ 0) }
+pub fn make_storage(alloc: Global, number: u64, state: &[u8]) -> Result<Part, u32>
+    ensures made { IfOk result (λ p. IsStorageMade number p) }
+    ensures err { IfErr result IsUnmade }
+    ensures limit { result ≡ Err 6 ↔ (31 < number) }
 {
-    let Some(tag) = Tag::new(tag) else {
+    let Some(tag) = tag(number) else {
         return Err(LIMIT);
     };
     let state = match read_coordinated(alloc, state) {

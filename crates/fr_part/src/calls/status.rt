@@ -1,4 +1,10 @@
 //! What a call says of itself.
+ghost use Rattle.std.specs.Prelude.{◌≡◌, ◌↔◌, ◌∷◌, [], false};
+ghost use Rattle.fr_part.specs.Calls.{IsAmong, is_answered, is_told};
+ghost use Rattle.fr_part.specs.Fault.{IsUnasked, status_of};
+ghost use Rattle.fr_part.specs.declared.fault.PartFault.TheVariants.{Kind, Memory, Part, Refused};
+
+use crate::fault::PartFault;
 
 /// It is done.
 pub const OK: u32 = 0;
@@ -30,3 +36,22 @@ pub const NOT_MINE: u32 = 12;
 pub const TOO_OLD: u32 = 13;
 /// The version that is read is above the one that the storage server applied: all is as it was.
 pub const FUTURE_VERSION: u32 = 14;
+
+/// The status of a machine that did not do as asked.
+pub fn status_of(fault: PartFault) -> u32
+    ensures status { result ≡ status_of fault }
+    ensures memory { (result ≡ 1) ↔ (fault ≡ Memory) }
+    ensures kind { (result ≡ 4) ↔ (fault ≡ Kind) }
+    ensures refused { (result ≡ 5) ↔ (fault ≡ Refused) }
+    ensures part { (result ≡ 9) ↔ (fault ≡ Part) }
+    ensures among { IsAmong (1 ∷ 4 ∷ 5 ∷ 9 ∷ []) result }
+    ensures untold { is_told result ≡ false }
+    ensures unasked { IsUnasked fault → IsAmong (1 ∷ 4 ∷ []) result × (is_answered result ≡ false) }
+{
+    match fault {
+        PartFault::Memory => MEMORY,
+        PartFault::Kind => KIND,
+        PartFault::Refused => REFUSED,
+        PartFault::Part => PART,
+    }
+}

@@ -1,14 +1,15 @@
 //! Stores in memory, in bytes.
-ghost use Rattle.std.specs.Prelude.{◌≡◌, true, None, IsErr, IsOk};
+ghost use Rattle.std.specs.Prelude.{◌≡◌, ◌≢◌, ◌<◌, ◌≤◌, ◌^◌, ◌↔◌, ◌∷◌, [], true, false, None, Err, IsErr, IsOk};
 ghost use Rattle.std.specs.FinMap as map;
 ghost use Rattle.fr_undo.specs.Undo.{extended, undone, forgotten};
-ghost use Rattle.fr_part.specs.Store.{BecomesStore, IfStore};
-ghost use Rattle.fr_part.specs.Answers.{IfBatch, IsGiven, IsShort};
-ghost use Rattle.fr_part.specs.Calls.{IfFound, refuses};
+ghost use Rattle.fr_part.specs.Store.{BecomesStore, IfStore, is_store};
+ghost use Rattle.fr_part.specs.Answers.{IfBatch, IsGiven, IsNoBatch, IsShort};
+ghost use Rattle.fr_part.specs.Calls.{IfFound, IsAmong};
+ghost use Rattle.fr_part.specs.declared.fault.PartFault.TheVariants.{Kind, Part as PartOnly, Refused};
 
 use crate::calls::giving::give;
 use crate::calls::reading::read_batch;
-use crate::calls::status::{BAD_TEXT, KIND, LIMIT, MEMORY, NONE, OK, REFUSED, SHORT};
+use crate::calls::status::{BAD_TEXT, LIMIT, MEMORY, NONE, OK, SHORT, status_of};
 use crate::fault::PartFault;
 use crate::part::Part;
 use fr_base::{Bytes, Version};
@@ -17,8 +18,14 @@ use std::alloc::Global;
 
 /// Applies a batch to a store at a version.
 pub fn apply_to(alloc: Global, part: &mut Part, version: u64, batch: &[u8]) -> u32
-    ensures kept { refuses result ≡ true → part.new ≡ part.old }
     ensures done { result ≡ 0 → IfBatch batch.now (λ ms. BecomesStore part.old part.new (λ s. extended s version ms)) }
+    ensures limit { (result ≡ 6) ↔ (2 ^ 62 ≤ version) }
+    ensures bad_text { result ≡ 7 → IsNoBatch batch.now }
+    ensures kind { result ≢ 1 → result ≢ 6 → result ≢ 7 → ((result ≡ 4) ↔ (is_store part.old ≡ false)) }
+    ensures refused { result ≢ 1 → result ≢ 6 → result ≢ 7
+        → ((result ≡ 5) ↔ IfStore part.old (λ s. version ≤ s.applied)) }
+    ensures among { IsAmong (0 ∷ 1 ∷ 4 ∷ 5 ∷ 6 ∷ 7 ∷ []) result }
+    ensures kept { result ≢ 0 → part.new ≡ part.old }
 {
     let Some(version) = Version::new(version) else {
         return LIMIT;
@@ -33,8 +40,12 @@ pub fn apply_to(alloc: Global, part: &mut Part, version: u64, batch: &[u8]) -> u
 
 /// Undoes all versions of a store above one.
 pub fn undo_in(alloc: Global, part: &mut Part, version: u64) -> u32
-    ensures kept { refuses result ≡ true → part.new ≡ part.old }
     ensures done { result ≡ 0 → BecomesStore part.old part.new (λ s. undone s version) }
+    ensures limit { (result ≡ 6) ↔ (2 ^ 62 ≤ version) }
+    ensures kind { result ≢ 1 → result ≢ 6 → ((result ≡ 4) ↔ (is_store part.old ≡ false)) }
+    ensures refused { result ≢ 1 → result ≢ 6 → ((result ≡ 5) ↔ IfStore part.old (λ s. version < s.floor)) }
+    ensures among { IsAmong (0 ∷ 1 ∷ 4 ∷ 5 ∷ 6 ∷ []) result }
+    ensures kept { result ≢ 0 → part.new ≡ part.old }
 {
     match Version::new(version) {
         Some(version) => of_call(part.undo_to(alloc, version)),
@@ -44,8 +55,12 @@ pub fn undo_in(alloc: Global, part: &mut Part, version: u64) -> u32
 
 /// Has a store forget how to undo below a version.
 pub fn forget_in(alloc: Global, part: &mut Part, version: u64) -> u32
-    ensures kept { refuses result ≡ true → part.new ≡ part.old }
     ensures done { result ≡ 0 → BecomesStore part.old part.new (λ s. forgotten s version) }
+    ensures limit { (result ≡ 6) ↔ (2 ^ 62 ≤ version) }
+    ensures kind { result ≢ 1 → result ≢ 6 → ((result ≡ 4) ↔ (is_store part.old ≡ false)) }
+    ensures refused { result ≢ 1 → result ≢ 6 → ((result ≡ 5) ↔ IfStore part.old (λ s. s.applied < version)) }
+    ensures among { IsAmong (0 ∷ 1 ∷ 4 ∷ 5 ∷ 6 ∷ []) result }
+    ensures kept { result ≢ 0 → part.new ≡ part.old }
 {
     match Version::new(version) {
         Some(version) => of_call(part.forget_through(alloc, version)),
@@ -55,14 +70,15 @@ pub fn forget_in(alloc: Global, part: &mut Part, version: u64) -> u32
 
 /// The status of a call of a store.
 fn of_call(called: Result<(), PartFault>) -> u32
-    ensures kept { refuses result ≡ true → IsErr called }
+    ensures kept { result ≢ 0 → IsErr called }
     ensures done { result ≡ 0 → IsOk called }
+    ensures kind { (result ≡ 4) ↔ (called ≡ Err Kind) }
+    ensures refused { (result ≡ 5) ↔ (called ≡ Err Refused) }
+    ensures among { called ≢ Err PartOnly → IsAmong (0 ∷ 1 ∷ 4 ∷ 5 ∷ []) result }
 {
     match called {
         Ok(()) => OK,
-        Err(PartFault::Memory) => MEMORY,
-        Err(PartFault::Kind) => KIND,
-        Err(_) => REFUSED,
+        Err(fault) => status_of(fault),
     }
 }
 
@@ -73,6 +89,8 @@ pub fn get_in(alloc: Global, part: &Part, key: &[u8], out: &mut [u8], len: &mut 
     ensures short { result ≡ 3 → IfStore part.now
         (λ s. IfFound (map.get s.contents key.now) (λ value. IsShort value out.new len.new)) }
     ensures none { result ≡ 11 → IfStore part.now (λ s. map.get s.contents key.now ≡ None) }
+    ensures kind { result ≢ 1 → ((result ≡ 4) ↔ (is_store part.now ≡ false)) }
+    ensures among { IsAmong (0 ∷ 1 ∷ 3 ∷ 4 ∷ 11 ∷ []) result }
 {
     let Ok(key) = Bytes::from_slice(alloc, key) else {
         return MEMORY;
@@ -84,6 +102,6 @@ pub fn get_in(alloc: Global, part: &Part, key: &[u8], out: &mut [u8], len: &mut 
             SHORT
         },
         Ok(None) => NONE,
-        Err(_) => KIND,
+        Err(fault) => status_of(fault),
     }
 }

@@ -1,13 +1,19 @@
 //! Turns of machines, in lines of JSON.
-ghost use Rattle.std.specs.Prelude.{◌≡◌, ◌<◌, true, length, take, IfOk};
+ghost use Rattle.std.specs.Prelude.{◌≡◌, ◌≢◌, ◌<◌, ◌↔◌, ◌∷◌, [], true, false, length, take, None, Err, IfOk, IfErr};
 ghost use Rattle.fr_part.specs.Seat.{SubmitsIn};
-ghost use Rattle.fr_part.specs.Answers.{IfBatch, IsJson};
-ghost use Rattle.fr_part.specs.Calls.{AnyAsk, AnyHear, IsTurn, is_told, refuses};
+ghost use Rattle.fr_part.specs.Answers.{IfBatch, IsJson, IsNoBatch, IsNoStep};
+ghost use Rattle.fr_part.specs.Fault.{IsUnasked};
+ghost use Rattle.fr_part.specs.Hear.{asks_of, hears, submit_fault, submits};
+ghost use Rattle.fr_part.specs.Last.{last_of};
+ghost use Rattle.fr_part.specs.LineCalls.{LacksLine};
+ghost use Rattle.fr_part.specs.declared.calls.turns.LineOf.TheVariants as line;
+ghost use Rattle.fr_part.specs.declared.fault.PartFault.TheVariants.{Kind};
+ghost use Rattle.fr_part.specs.Calls.{AnyAsk, AnyHear, AnyPart, AnyRefused, IsTurn, IsAmong, is_told};
 
 use crate::calls::giving::{give_line, give_said};
 use crate::calls::lines::{read_ask, read_heard, write_asks, write_standing};
 use crate::calls::reading::read_batch;
-use crate::calls::status::{BAD_TEXT, KIND, LIMIT, MEMORY, PART, REFUSED};
+use crate::calls::status::{BAD_TEXT, KIND, LIMIT, MEMORY, REFUSED, status_of};
 use crate::fault::PartFault;
 use crate::part::Part;
 use crate::seat::Seat;
@@ -17,7 +23,8 @@ use std::alloc::Global;
 
 /// Asks a machine what a line says, and gives the line of what it tells.
 pub fn ask_line(alloc: Global, seat: &mut Seat, line: &[u8], out: &mut [u8], len: &mut usize) -> u32
-    ensures turn { IsTurn result seat.old seat.new (AnyAsk seat.old seat.new) }
+    ensures turn { IsTurn (is_told result) seat.old seat.new (AnyAsk seat.old seat.new) }
+    ensures among { IsAmong (0 ∷ 1 ∷ 3 ∷ 4 ∷ 7 ∷ 8 ∷ []) result }
     ensures ok { result ≡ 0 → IsJson (take len.new out.new) }
     ensures short { result ≡ 3 → length out.new < len.new }
 {
@@ -28,8 +35,7 @@ pub fn ask_line(alloc: Global, seat: &mut Seat, line: &[u8], out: &mut [u8], len
     };
     match seat.ask(alloc, ask) {
         Ok(()) => give_said(alloc, &seat.said, out, len),
-        Err(PartFault::Memory) => MEMORY,
-        Err(_) => KIND,
+        Err(fault) => status_of(fault),
     }
 }
 
@@ -41,8 +47,12 @@ pub fn hear_line(
     out: &mut [u8],
     len: &mut usize,
 ) -> u32
-    ensures kept { refuses result ≡ true → seat.new ≡ seat.old }
     ensures done { is_told result ≡ true → AnyHear seat.old seat.new }
+    ensures part { result ≡ 9 → AnyPart seat.old seat.new }
+    ensures refused { result ≡ 5 → AnyRefused seat.old }
+    ensures kind { result ≢ 1 → result ≢ 7 → ((result ≡ 4) ↔ (hears seat.old.part ≡ false)) }
+    ensures among { IsAmong (0 ∷ 1 ∷ 3 ∷ 4 ∷ 5 ∷ 7 ∷ 8 ∷ 9 ∷ []) result }
+    ensures kept { is_told result ≡ false → result ≢ 9 → seat.new ≡ seat.old }
     ensures ok { result ≡ 0 → IsJson (take len.new out.new) }
     ensures short { result ≡ 3 → length out.new < len.new }
 {
@@ -53,10 +63,7 @@ pub fn hear_line(
     };
     match seat.hear(alloc, from, tell) {
         Ok(()) => give_said(alloc, &seat.said, out, len),
-        Err(PartFault::Memory) => MEMORY,
-        Err(PartFault::Kind) => KIND,
-        Err(PartFault::Refused) => REFUSED,
-        Err(PartFault::Part) => PART,
+        Err(fault) => status_of(fault),
     }
 }
 
@@ -70,8 +77,13 @@ pub fn submit_to(
     out: &mut [u8],
     len: &mut usize,
 ) -> u32
-    ensures kept { refuses result ≡ true → seat.new ≡ seat.old }
     ensures done { is_told result ≡ true → IfBatch batch.now (λ ms. SubmitsIn seat.old step ms seat.new) }
+    ensures limit { (result ≡ 6) ↔ IsNoStep step }
+    ensures bad_text { result ≡ 7 → IsNoBatch batch.now }
+    ensures kind { result ≢ 1 → result ≢ 6 → result ≢ 7 → ((result ≡ 4) ↔ (submits seat.old.part ≡ false)) }
+    ensures refused { result ≢ 1 → result ≢ 6 → result ≢ 7 → ((result ≡ 5) ↔ (submit_fault seat.old.part ≢ None)) }
+    ensures among { IsAmong (0 ∷ 1 ∷ 3 ∷ 4 ∷ 5 ∷ 6 ∷ 7 ∷ 8 ∷ []) result }
+    ensures kept { is_told result ≡ false → seat.new ≡ seat.old }
     ensures ok { result ≡ 0 → IsJson (take len.new out.new) }
     ensures short { result ≡ 3 → length out.new < len.new }
 {
@@ -87,7 +99,8 @@ pub fn submit_to(
         Ok(()) => give_said(alloc, &seat.said, out, len),
         Err(PartFault::Memory) => MEMORY,
         Err(PartFault::Kind) => KIND,
-        Err(_) => REFUSED,
+        Err(PartFault::Refused) => REFUSED,
+        Err(PartFault::Part) => REFUSED,
     }
 }
 
@@ -106,6 +119,10 @@ pub enum LineOf {
 pub fn tell_line(alloc: Global, seat: &Seat, which: LineOf, out: &mut [u8], len: &mut usize) -> u32
     ensures ok { result ≡ 0 → IsJson (take len.new out.new) }
     ensures short { result ≡ 3 → length out.new < len.new }
+    ensures kind { result ≢ 1 → ((result ≡ 4) ↔ LacksLine which seat.now.part) }
+    ensures among { IsAmong (0 ∷ 1 ∷ 3 ∷ 4 ∷ 8 ∷ []) result }
+    ensures said { which ≡ line.Said → is_told result ≡ true }
+    ensures asked { which ≢ line.Said → result ≢ 8 }
 {
     match which {
         LineOf::Said => give_said(alloc, &seat.said, out, len),
@@ -116,16 +133,30 @@ pub fn tell_line(alloc: Global, seat: &Seat, which: LineOf, out: &mut [u8], len:
 
 /// The line of what a machine asks now.
 fn next_line(alloc: Global, part: &Part) -> Result<Vec<u8>, PartFault>
-    ensures { IfOk result (λ line. IsJson line.items) }
+    ensures json { IfOk result (λ line. IsJson line.items) }
+    ensures kind { result ≡ Err Kind ↔ asks_of part.now ≡ None }
+    ensures faults { IfErr result IsUnasked }
 {
-    let asks = part.next(alloc)?;
-    Ok(write_asks(alloc, &asks)?)
+    match part.next(alloc) {
+        Ok(asks) => match write_asks(alloc, &asks) {
+            Ok(line) => Ok(line),
+            Err(_) => Err(PartFault::Memory),
+        },
+        Err(fault) => Err(fault),
+    }
 }
 
 /// The line of where a machine stands.
 fn last_line(alloc: Global, part: &Part) -> Result<Vec<u8>, PartFault>
-    ensures { IfOk result (λ line. IsJson line.items) }
+    ensures json { IfOk result (λ line. IsJson line.items) }
+    ensures kind { result ≡ Err Kind ↔ last_of part.now ≡ None }
+    ensures faults { IfErr result IsUnasked }
 {
-    let last = part.last(alloc)?;
-    Ok(write_standing(alloc, &last)?)
+    match part.last(alloc) {
+        Ok(last) => match write_standing(alloc, &last) {
+            Ok(line) => Ok(line),
+            Err(_) => Err(PartFault::Memory),
+        },
+        Err(fault) => Err(fault),
+    }
 }
