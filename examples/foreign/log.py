@@ -1,6 +1,11 @@
 """A log of a generation, by the table of docs/PROTOCOL.md (Logs). Asks and tells have the form of a journal."""
 
 
+# what each ask has
+MEMBERS = {"seed": "epoch first records seeded_to", "push": "bodies epoch known mark prev version", "lock": "epoch"}
+MEMBERS |= {"peek": "after epoch most tag", "mark_asked": "epoch", "pop": "epoch tag through"}
+
+
 def holds(index, tag, m, k):
     """Whether log `index` of m holds a tag: tag t stands on the logs t, t + 1, .., t + k - 1 modulo m."""
     return (index - tag) % m < k
@@ -21,6 +26,9 @@ class Log:
     def ask(self, ask):
         """What it tells. Refusals come in the order of the table, and change nothing."""
         ((name, what),) = ask["log"].items()
+        lacking = [it for it in MEMBERS[name].split() if it not in what]
+        if lacking:
+            raise LookupError(f"{name} has no {lacking[0]}")
         if what["epoch"] != self.epoch:
             return self.refused("wrong_epoch")
         if self.seed is None and name != "seed":

@@ -160,6 +160,9 @@ class Storage:
     def set_state(self, state):
         self.state = state
 
+    def stands(self):
+        """Where it is, without its rows."""
+        return {"epoch": gens(self.state)[-1]["epoch"], "floor": self.floor, "version": self.version}
+
     def last(self):
-        rows = [[key, self.rows[key]] for key in sorted(self.rows)]
-        return {"epoch": gens(self.state)[-1]["epoch"], "floor": self.floor, "rows": rows, "version": self.version}
+        return self.stands() | {"rows": [[key, self.rows[key]] for key in sorted(self.rows)]}
