@@ -27,7 +27,8 @@ const usage = `fdbrec-service COMMAND --config FILE ..
   get KEY [--settled | --stale]   print a value, as of all that was acknowledged before; --settled: as of the last
                                   version that no recovery takes back; --stale: where the storage server is
   watch KEY                       print each value that a key comes to have and keeps
-  bench --seconds N --clients K [--acks FILE]    put keys of their own; --acks writes down each one that was acknowledged
+  bench --seconds N --clients K [--acks FILE] [--trace FILE]    put keys of their own; --acks writes down each one that
+                                  was acknowledged, --trace when that put began and ended, in nanoseconds since 1970
   check --acks FILE               read what such a file has; status 1 if one is missing
   nkeys                           make the nkeys that FILE names, and print what brokers are told of them
   journals ROOM..                 print the journals of these folders as one script of an audit
@@ -89,7 +90,7 @@ type words struct {
 }
 
 var valued = map[string]bool{"config": true, "machine": true, "number": true, "within": true, "log": true, "seconds": true,
-	"clients": true, "acks": true, "machines": true, "broker": true, "node": true}
+	"clients": true, "acks": true, "trace": true, "machines": true, "broker": true, "node": true}
 var plain = map[string]bool{"json": true, "hex": true, "settled": true, "stale": true, "write": true, "join": true}
 
 func parse(its []string) (*words, error) {

@@ -18,7 +18,7 @@ func (w *words) bus() (*config.Config, *bus.Bus, error) {
 	if err != nil {
 		return nil, nil, err
 	}
-	found, err := bus.Connect(its, fmt.Sprintf("client-%d", os.Getpid()), its.Nkey, false, 2*time.Second)
+	found, err := bus.Connect(its, fmt.Sprintf("client-%d", os.Getpid()), its.Nkey, nil, 2*time.Second)
 	return its, found, err
 }
 
@@ -136,7 +136,7 @@ func shownNode(node *wire.NodeView, durable uint64) string {
 	if json.Unmarshal(node.Last, &where) == nil {
 		switch {
 		case where.Log != nil:
-			text += fmt.Sprintf(" durable %d known %d", where.Log.Durable, where.Log.Known)
+			text += fmt.Sprintf(" durable %d known %d file_kb %d", where.Log.Durable, where.Log.Known, node.Bytes>>10)
 		case where.Storage != nil:
 			lag := uint64(0)
 			if durable > where.Storage.Version {

@@ -12,7 +12,7 @@ import subprocess
 import time
 
 import built
-from served_net import Disk, Gate
+from served_net import Disk, Gate, Spaces
 
 SERVICE = f"{built.TOP}/service/fdbrec-service"
 PACKAGES = "golang-go golang-github-nats-io-go-nats-dev nats-server"
@@ -56,11 +56,13 @@ def free_port():
 
 
 class Cluster:
-    """Brokers, agents and keepers, each a process of its own, by names as `broker-0`, `m3`, `keeper-1`."""
+    """Brokers, agents and keepers, each a process of its own, by names as `broker-0`, `m3`, `keeper-1`. With `spaces`
+    each machine is in namespaces of its own, a broker or keeper with the agent of its number; the last one has clients.
+    With gates the routes between brokers lead through this process, which can cut them."""
 
-    def __init__(self, room, brokers=1, machines=5, values=None, is_small=False):
+    def __init__(self, room, brokers=1, machines=5, values=None, is_small=False, spaces=None, has_gates=True):
         self.room, self.its, self.logs = room, {}, f"{room}/logs"
-        self.config = f"{room}/service.toml"
+        self.config, self.spaces, self.has_gates = f"{room}/service.toml", spaces, has_gates and not spaces
         self.gates, self.disk = [], None
         words = ["dev", room, "--write", "--machines", str(machines), "--node", node_words()]
         self.run(*words)
@@ -78,18 +80,22 @@ class Cluster:
     def write(self, brokers, values):
         """Brokers that know one another, and their addresses in the configuration, with other values of its keys."""
         ports, routes = [free_port() for _ in range(brokers)], [free_port() for _ in range(brokers)]
-        self.gates = [Gate(each) for each in routes] if brokers > 1 else []
+        self.gates = [Gate(each) for each in routes] if brokers > 1 and self.has_gates else []
+        where = [self.spaces.address(at) if self.spaces else "127.0.0.1" for at in range(brokers)]
+        doors = [each.port for each in self.gates] or routes
         for at in range(brokers):
-            others = ", ".join(f'"nats://127.0.0.1:{each.port}"' for each in self.gates if each != self.gates[at])
-            its = f'listen: 127.0.0.1:{ports[at]}\nmax_payload: 67108864\nserver_name: b{at}\nwrite_deadline: "2s"\n'
+            others = ", ".join(f'"nats://{where[each]}:{doors[each]}"' for each in range(brokers) if each != at)
+            its = f'listen: {where[at]}:{ports[at]}\nmax_payload: 67108864\nserver_name: b{at}\nwrite_deadline: "2s"\n'
+            its += 'ping_interval: "1s"\nping_max: 2\n'
             if brokers > 1:
-                where = f'listen: 127.0.0.1:{routes[at]}, advertise: "127.0.0.1:{self.gates[at].port}"'
-                its += f"cluster {{ name: c, no_advertise: true, {where}, routes: [{others}] }}\n"
+                door = f'listen: {where[at]}:{routes[at]}, advertise: "{where[at]}:{doors[at]}"'
+                its += f"cluster {{ name: c, no_advertise: true, {door}, routes: [{others}] }}\n"
             with open(f"{self.room}/broker-{at}.conf", "w", encoding="utf-8") as it:
                 it.write(its)
         with open(self.config, encoding="utf-8") as it:
             text = it.read()
-        text = re.sub(r"urls = .*", "urls = [" + ", ".join(f'"nats://127.0.0.1:{each}"' for each in ports) + "]", text)
+        urls = ", ".join(f'"nats://{where[at]}:{ports[at]}"' for at in range(brokers))
+        text = re.sub(r"urls = .*", f"urls = [{urls}]", text)
         for name, value in values.items():
             text = re.sub(rf"^{name} = .*", f"{name} = {value}", text, flags=re.M)
         with open(self.config, "w", encoding="utf-8") as it:
@@ -100,7 +106,14 @@ class Cluster:
     def start(self, name):
         with open(f"{self.logs}/{name}", "ab") as log:
             how = {"stdin": subprocess.DEVNULL, "stdout": log, "stderr": log, "start_new_session": True}
-            self.its[name] = subprocess.Popen(self.words[name], **how)
+            self.its[name] = subprocess.Popen([*self.on(name), *self.words[name]], **how)
+
+    def on(self, name):
+        """What has a process run on its machine: that of its number."""
+        if not self.spaces:
+            return []
+        at = int(re.sub(r"\D", "", name)) if name else len(self.spaces.names) - 1
+        return self.spaces.words(at)
 
     def start_all(self):
         for name in self.words:
@@ -151,6 +164,8 @@ class Cluster:
             each.close()
         if self.disk:
             self.disk.close()
+        if self.spaces:
+            self.spaces.close()
 
     # ---- commands
 
@@ -158,13 +173,23 @@ class Cluster:
         return [SERVICE, *words] if words[0] == "dev" else [SERVICE, *words, "--config", self.config]
 
     def run(self, *words, timeout=100):
-        ran = subprocess.run(self.command(*words), capture_output=True, text=True, timeout=timeout)
+        given = [*([] if words[0] in ("dev", "init") else self.on("")), *self.command(*words)]
+        ran = subprocess.run(given, capture_output=True, text=True, timeout=timeout)
         self.last = ran
         return ran
 
     def begin(self, *words):
         how = {"stdin": subprocess.DEVNULL, "stdout": subprocess.PIPE, "stderr": subprocess.STDOUT, "text": True}
-        return subprocess.Popen(self.command(*words), **how)
+        return subprocess.Popen([*self.on(""), *self.command(*words)], **how)
+
+    def memory(self):
+        """MiB that each agent has."""
+        found = {}
+        for name, its in self.its.items():
+            if name.startswith("m") and its.poll() is None:
+                with open(f"/proc/{its.pid}/status", encoding="utf-8") as it:
+                    found[name] = int(re.search(r"VmRSS:\s+(\d+)", it.read())[1]) // 1024
+        return found
 
     def comes(self, seconds):
         """How long it takes until a commit is acknowledged, at most so many seconds; or None."""
@@ -195,7 +220,7 @@ class Faults:
     """What goes wrong in a run, one after another, by the seed. Each is undone before the run ends."""
 
     KINDS = {"agent": 4, "node": 6, "broker": 2, "keeper": 2, "stop agent": 2, "stop node": 3, "stop broker": 1,
-             "stop keeper": 1, "all agents": 3, "cut": 4, "full disk": 3}
+             "stop keeper": 1, "all agents": 3, "cut": 4, "cut off": 3, "full disk": 3}
 
     def __init__(self, cluster, seed):
         self.cluster, self.dice = cluster, random.Random(f"faults {seed}")
@@ -220,8 +245,10 @@ class Faults:
     def one(self):
         """One more, of those that this cluster can have."""
         kinds = dict(self.KINDS)
-        if not self.cluster.gates:
+        if not self.cluster.gates and not self.cluster.spaces:
             del kinds["cut"]
+        if not self.cluster.spaces:
+            del kinds["cut off"]
         if not self.cluster.disk or not self.cluster.disk.is_there:
             del kinds["full disk"]
         kind = self.dice.choices(list(kinds), list(kinds.values()))[0]
@@ -266,10 +293,28 @@ class Faults:
 
     def do_cut(self):
         """Routes between brokers are cut: two of them do not hear one another, but both hear the third; or none hears
-        another one."""
+        another one. In namespaces nothing goes between two machines."""
+        if self.cluster.spaces:
+            self.part(*self.dice.sample(range(len(self.named("m"))), 2), self.dice.choice([1, 3, 6]))
+            return
         for each in self.dice.sample(self.cluster.gates, self.dice.choice([2, 3])):
             each.shut(True)
             self.later(self.dice.choice([1, 3, 6]), each.shut, False)
+
+    def do_cut_off(self):
+        """Nothing goes between a machine and all others."""
+        its = range(len(self.named("m")))
+        one, seconds = self.dice.choice(its), self.dice.choice([1, 3, 6])
+        for each in its:
+            if each != one:
+                self.part(one, each, seconds)
+
+    def part(self, one, other, seconds):
+        spaces = self.cluster.spaces
+        if (one, other) not in spaces.cuts and (other, one) not in spaces.cuts:
+            self.done[-1] += f" m{one} m{other}"
+            spaces.cut(one, other)
+            self.later(seconds, spaces.mend, one, other)
 
     def do_full_disk(self):
         self.cluster.disk.fill()

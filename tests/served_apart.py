@@ -12,6 +12,7 @@ import time
 import urllib.error
 import urllib.request
 
+import built
 import served
 
 # a text of the configuration that dev writes, what stands in its place, and how the refusal begins behind the path
@@ -48,11 +49,29 @@ class Raw:
 def all_of(checks):
     room = tempfile.mkdtemp(prefix="service-apart-")
     try:
+        units(checks, f"{room}/units")
         configurations(checks, f"{room}/a")
         no_broker(checks, f"{room}/b")
         running(checks, f"{room}/c")
     finally:
         shutil.rmtree(room)
+
+
+def units(checks, room):
+    """systemd reads the units without a word, if it is here."""
+    if not shutil.which("systemd-analyze"):
+        print("the units are not tried: it lacks systemd: apt-get install -y systemd", flush=True)
+        return
+    os.mkdir(room)
+    for name, at in (("agent", "m0"), ("keeper", "1")):
+        with open(f"{built.TOP}/service/units/fdbrec-{name}@.service", encoding="utf-8") as it:
+            text = it.read().replace("/usr/bin/fdbrec-service", served.SERVICE).replace("User=fdbrec", "User=root")
+        for path in (f"{room}/fdbrec-{name}@.service", f"{room}/fdbrec-{name}@{at}.service"):
+            with open(path, "w", encoding="utf-8") as it:
+                it.write(text)
+        ran = subprocess.run(["systemd-analyze", "verify", path], capture_output=True, text=True, timeout=60)
+        is_so = (ran.returncode, ran.stdout, ran.stderr) == (0, "", "")
+        checks.check(is_so, "unit", name, ran.returncode, ran.stdout, ran.stderr)
 
 
 def said(*words, **how):
@@ -117,12 +136,14 @@ def running(checks, room):
         cluster.start_all()
         checks.check(cluster.comes(60) is not None, "it begins:", cluster.last.stderr)
         strange(checks, cluster)
+        late_pop(checks, cluster)
         others(checks, cluster)
         values(checks, cluster)
         pages(checks, port)
         in_use(checks, cluster)
         early(checks, cluster)
         lost_file(checks, cluster)
+        erased(checks, cluster)
         cluster.stop()
         line, why, _ = cluster.audit()
         checks.check(line == "audit ok", line, why)
@@ -159,13 +180,50 @@ def strange(checks, cluster):
     checks.check(cluster.comes(10) is not None, "it goes on:", cluster.last.stderr)
 
 
+def late_pop(checks, cluster):
+    """A pop that says a stamp which has passed is counted, and no log is given it."""
+    was = counts(cluster, "late pops dropped")
+    ask = {"log": {"pop": {"epoch": 257, "tag": 0, "through": 0}}}
+    message = {"type": "ask", "at": 1, "until": 1, "from": {"storage": {"tag": 0}}, "ask": ask}
+    raw = Raw(raw_port(cluster))
+    raw.say("fdbrec.dev.node.log-257-0.m3", json.dumps(message).encode())
+    raw.close()
+    ends = time.monotonic() + 10
+    while counts(cluster, "late pops dropped") == was and time.monotonic() < ends:
+        time.sleep(0.2)
+    checks.check(counts(cluster, "late pops dropped") == was + 1, "a late pop is counted")
+
+
+def erased(checks, cluster):
+    """Two epochs later nothing says any more that nodes of earlier ones were started, but their journals."""
+    first = cluster.standing()["newest"]["epoch"]
+    for _ in range(2):
+        ran = cluster.run("recover")
+        checks.check(ran.returncode == 0, "recover:", ran.stdout, ran.stderr)
+        checks.check(cluster.comes(60) is not None, "it goes on after a recovery:", cluster.last.stderr)
+        time.sleep(1)
+
+    def left():
+        names = [name for at in range(5) for name in os.listdir(f"{cluster.room}/m{at}/nodes")]
+        found = [re.fullmatch(r"(sequencer|proxy|recoverer)-(\d+).*", name) for name in names]
+        newest = cluster.standing()["newest"]["epoch"]
+        return [it[0] for it in found if it and int(it[2]) < newest]
+
+    ends = time.monotonic() + 60
+    while left() and time.monotonic() < ends:
+        time.sleep(0.5)
+    checks.check(not left(), "records of ended epochs:", left())
+    journals = [name for at in range(5) for name in os.listdir(f"{cluster.room}/m{at}/journals")]
+    checks.check(f"sequencer-{first}" in journals, "the journals of an ended epoch stay:", sorted(journals))
+
+
 def raw_port(cluster):
     with open(cluster.config, encoding="utf-8") as it:
         return int(re.search(r"nats://127.0.0.1:(\d+)", it.read())[1])
 
 
-def counts(cluster):
-    return cluster.standing()["machines"]["m0"]["counts"].get("messages that are none of ours", 0)
+def counts(cluster, name="messages that are none of ours"):
+    return cluster.standing()["machines"]["m0"]["counts"].get(name, 0)
 
 
 def others(checks, cluster):

@@ -15,6 +15,7 @@ import (
 	"sort"
 	"strconv"
 	"sync"
+	"sync/atomic"
 	"time"
 
 	"fdbrec/service/internal/bus"
@@ -22,9 +23,10 @@ import (
 	"fdbrec/service/internal/wire"
 )
 
-// Sessions are the prefixes of the keys that clients keep, \xff/session/ and \x00/session/: one is mostly in the last
-// shard, the other in the first, so that a put whose answer was lost can be settled while one of the two is away.
-var Sessions = []string{"ff2f73657373696f6e2f", "002f73657373696f6e2f"}
+// Sessions are the prefixes of the keys that clients keep, \x00/session/ and \xff/session/: the first is in the first
+// shard, the other one mostly in the last. A put writes the one that is in its own shard, if either is: then no more logs
+// and storage servers have to do with it than without.
+var Sessions = []string{"002f73657373696f6e2f", "ff2f73657373696f6e2f"}
 
 // ErrNoCluster says that no machine of the cluster answered in time: nothing was done.
 var ErrNoCluster = errors.New("the cluster does not answer")
@@ -62,12 +64,20 @@ type Client struct {
 	bus    *bus.Bus
 	mutex  sync.Mutex
 	newest *wire.Epoch
+	later  chan struct{} // closed when a newer epoch is known
 	slots  []*slot
 	end    func()
 	id     string
 	made   int
 	next   uint64
+	width  uint64 // of how many proxies it uses
+
+	isAsking int32 // 1 while it asks who knows the newest epoch
 }
+
+// few is of how many proxies a client uses at first. A log syncs once for each batch, so that few proxies with large
+// batches commit more than many with small ones; two, so that one batch is numbered while the other one is synced.
+const few = 2
 
 // slot numbers puts that follow one another: each put that is under way has one. Its key is without a prefix.
 type slot struct {
@@ -90,10 +100,10 @@ func Open(ctx context.Context, its *config.Config) (*Client, error) {
 	if _, err := rand.Read(random); err != nil {
 		return nil, err
 	}
-	c := &Client{config: its, id: hex.EncodeToString(random), next: uint64(random[0])}
+	c := &Client{config: its, id: hex.EncodeToString(random), next: uint64(random[0]), width: few, later: make(chan struct{})}
 	var err error
 	for {
-		c.bus, err = bus.Connect(its, "client-"+c.id, its.Nkey, false, time.Second)
+		c.bus, err = bus.Connect(its, "client-"+c.id, its.Nkey, nil, time.Second)
 		if err == nil || ctx.Err() != nil {
 			break
 		}
@@ -116,6 +126,9 @@ func Open(ctx context.Context, its *config.Config) (*Client, error) {
 	}, "epoch")
 	return c, err
 }
+
+// Refused is what the broker refused last, as messages that the key may not publish; or nil.
+func (c *Client) Refused() error { return c.bus.Why() }
 
 // Close ends the connection. The keys of the session are cleared, if that can be done at once.
 func (c *Client) Close() {
@@ -146,26 +159,64 @@ func (c *Client) learn(its *wire.Epoch) {
 	c.mutex.Lock()
 	defer c.mutex.Unlock()
 	if len(its.State.Gens) > 0 && (c.newest == nil || its.Epoch > c.newest.Epoch) {
-		c.newest = its
+		c.newest, c.width = its, few
+		close(c.later)
+		c.later = make(chan struct{})
 	}
+}
+
+// whileIn makes a context for a request to a proxy of an epoch: it ends after a time, or soon after a newer epoch is
+// known, since its proxy may then be gone.
+func (c *Client) whileIn(ctx context.Context, epoch uint64, most time.Duration) (context.Context, func()) {
+	one, done := context.WithTimeout(ctx, most)
+	c.mutex.Lock()
+	later, isOver := c.later, c.newest != nil && c.newest.Epoch > epoch
+	c.mutex.Unlock()
+	go func() {
+		if !isOver {
+			select {
+			case <-one.Done():
+				return
+			case <-later:
+			}
+		}
+		_ = pause(one, nil) // (its agent may be about to say what became of it)
+		done()
+	}()
+	return one, done
 }
 
 // epoch is the newest epoch that is known, once that is above another one.
 func (c *Client) epoch(ctx context.Context, above uint64) (uint64, error) {
 	for {
+		c.mutex.Lock()
+		later := c.later
+		c.mutex.Unlock()
 		if newest, _ := c.known(); newest > above {
 			return newest, nil
 		}
-		_ = c.bus.Collect(100*time.Millisecond, struct{}{}, func(data []byte) {
-			var told wire.Epoch
-			if json.Unmarshal(data, &told) == nil {
-				c.learn(&told)
-			}
-		}, "who")
-		if ctx.Err() != nil {
+		go c.askWho()
+		select {
+		case <-later:
+		case <-ctx.Done():
 			return 0, fmt.Errorf("%w: %v", ErrNoCluster, ctx.Err())
+		case <-time.After(100 * time.Millisecond):
 		}
 	}
+}
+
+// askWho asks for the newest epoch, once for all that wait. A new one is told unasked, too, but a message can be lost.
+func (c *Client) askWho() {
+	if !atomic.CompareAndSwapInt32(&c.isAsking, 0, 1) {
+		return
+	}
+	defer atomic.StoreInt32(&c.isAsking, 0)
+	_ = c.bus.Collect(100*time.Millisecond, struct{}{}, func(data []byte) {
+		var told wire.Epoch
+		if json.Unmarshal(data, &told) == nil {
+			c.learn(&told)
+		}
+	}, "who")
 }
 
 func (c *Client) submit(ctx context.Context, epoch, proxy uint64, id string, its []Mutation, told *wire.Submitted) error {
@@ -173,6 +224,9 @@ func (c *Client) submit(ctx context.Context, epoch, proxy uint64, id string, its
 	err := c.bus.Ask(ctx, ask, told, "submit", strconv.FormatUint(epoch, 10), strconv.FormatUint(proxy, 10))
 	if err == nil {
 		c.bus.Clock.See(told.At)
+		if told.IsCrowded {
+			c.widen()
+		}
 	}
 	return err
 }
@@ -201,9 +255,11 @@ func (c *Client) Commit(ctx context.Context, its ...Mutation) (Version, error) {
 	slot := c.slot()
 	slot.number++
 	number := fmt.Sprintf("%016x", slot.number)
-	whole := append([]Mutation(nil), its...)
-	for _, prefix := range Sessions {
-		whole = append(whole, wire.Mutation("set", prefix+slot.key, number))
+	// (an empty list is committed as well if it is committed twice)
+	key, whole := "", append([]Mutation(nil), its...)
+	if len(its) > 0 {
+		key = c.session(its[0]) + slot.key
+		whole = append(whole, wire.Mutation("set", key, number))
 	}
 	above := uint64(0)
 	for {
@@ -212,7 +268,7 @@ func (c *Client) Commit(ctx context.Context, its ...Mutation) (Version, error) {
 			c.free(slot)
 			return Version{}, err
 		}
-		found, again, err := c.try(ctx, epoch, slot.key, number, whole)
+		found, again, err := c.try(ctx, epoch, attempt{slot.key + number, key, number, whole})
 		if !again {
 			if !errors.Is(err, ErrUnknown) {
 				c.free(slot) // (else a later put must not be taken for this one)
@@ -225,12 +281,37 @@ func (c *Client) Commit(ctx context.Context, its ...Mutation) (Version, error) {
 	}
 }
 
+// session is the prefix that is in the shard of a mutation's first key, or else the first one.
+func (c *Client) session(its Mutation) string {
+	for _, each := range Sessions {
+		if c.tag(each) == c.tag(wire.FirstKey(its)) {
+			return each
+		}
+	}
+	return Sessions[0]
+}
+
+// tag is the shard of a key.
+func (c *Client) tag(key string) int { return sort.SearchStrings(c.config.Shards, key+"\x00") - 1 }
+
 // proxy is one of the proxies of an epoch.
 func (c *Client) proxy() uint64 {
 	c.mutex.Lock()
 	defer c.mutex.Unlock()
 	c.next++
+	if c.width < c.config.Proxies {
+		return c.next % c.width
+	}
 	return c.next % c.config.Proxies
+}
+
+// widen uses one more proxy: those that it uses have more than one batch takes.
+func (c *Client) widen() {
+	c.mutex.Lock()
+	defer c.mutex.Unlock()
+	if c.width < c.config.Proxies {
+		c.width++
+	}
 }
 
 // known is the newest epoch that is known, and the version through which it took over.
@@ -293,7 +374,7 @@ func (c *Client) got(its wire.Got, err error) (Value, error) {
 
 // ask asks the storage server of a key, again and again until the context ends.
 func (c *Client) ask(ctx context.Context, its wire.Read) (wire.Got, error) {
-	tag := sort.SearchStrings(c.config.Shards, its.Key+"\x00") - 1
+	tag := c.tag(its.Key)
 	its.Within = 500
 	last := ErrNoCluster
 	for {

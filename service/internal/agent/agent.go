@@ -35,14 +35,17 @@ type Agent struct {
 	lock     *os.File
 	say      chan struct{}
 
-	orders sync.Map // of a lock for each node that was ordered something
-	mutex  sync.Mutex
-	nodes  map[string]*node
-	unhear map[string][]func()
-	newest wire.Epoch
-	moved  uint64 // the greatest version that was committed in the newest epoch
-	hosts  map[string]string
-	halted bool
+	orders  sync.Map   // of a lock for each node that was ordered something
+	keeping sync.Mutex // of newest.json
+	mutex   sync.Mutex
+	nodes   map[string]*node
+	unhear  map[string][]func()
+	newest  wire.Epoch
+	kept    uint64 // the newest epoch that is on disk: no node of an earlier one is started here any more
+	moved   uint64 // the greatest version that was committed in the newest epoch
+	told    uint64 // and the greatest that this agent told others, or heard of
+	hosts   map[string]string
+	halted  bool
 }
 
 // New makes the agent of a machine, in its room, which must have been made.
@@ -58,9 +61,10 @@ func New(c *config.Config, machine *config.Machine, log *report.Log) (*Agent, er
 		if err := json.Unmarshal(text, &a.newest); err != nil {
 			return nil, fmt.Errorf("%s/newest.json: %v", a.room, err)
 		}
+		a.kept = a.newest.Epoch
 	}
 	var err error
-	a.bus, err = bus.Connect(c, machine.Name, machine.Nkey, true, 2*time.Second)
+	a.bus, err = bus.Connect(c, machine.Name, machine.Nkey, log, 2*time.Second)
 	if err == nil {
 		a.bus.Clock.See(a.newest.At)
 	}
@@ -109,6 +113,7 @@ func (a *Agent) resumeAll(its []record) {
 			}
 		}
 	}
+	a.purge()
 }
 
 // resume starts a node that was here before, if it has files, or was never started.
@@ -217,6 +222,7 @@ func (a *Agent) find(token string) *node {
 // tick does what is due by the clock.
 func (a *Agent) tick() {
 	now := time.Now()
+	a.tellMoved()
 	for _, n := range a.all() {
 		switch n.name.Kind {
 		case "proxy":
@@ -243,12 +249,13 @@ func (a *Agent) newestAndMoved() (wire.Epoch, uint64) {
 	return a.newest, a.moved
 }
 
-// learn takes in an epoch that is chosen, and keeps it on disk.
+// learn takes in an epoch that is chosen. It is kept on disk beside that: nothing rests on it but what may be forgotten.
+// Clients hear at once that the batches of earlier epochs are decided: the epoch's state says how.
 func (a *Agent) learn(its *wire.Epoch) {
 	a.mutex.Lock()
 	is := its.Epoch > a.newest.Epoch && len(its.State.Gens) > 0
 	if is {
-		a.newest, a.moved = *its, its.Rv+1
+		a.newest, a.moved, a.told = *its, its.Rv+1, its.Rv+1
 	}
 	a.mutex.Unlock()
 	a.bus.Clock.See(its.At)
@@ -256,23 +263,70 @@ func (a *Agent) learn(its *wire.Epoch) {
 		return
 	}
 	a.log.Info("epoch", "epoch", its.Epoch, "pev", its.Pev, "rv", its.Rv)
-	if err := writeJSON(filepath.Join(a.room, "newest.json"), its); err != nil {
-		a.log.Warn("the newest epoch is not on disk", "why", err)
+	for _, n := range a.all() {
+		if n.name.Kind == "proxy" && n.name.Epoch() < its.Epoch {
+			n.proxy.gone()
+		}
 	}
+	go a.keepNewest()
 }
 
-// move takes in that a version was committed, and tells it to all if it was here.
+// keepNewest writes the newest epoch down, and forgets what goes with it.
+func (a *Agent) keepNewest() {
+	a.keeping.Lock()
+	defer a.keeping.Unlock()
+	its, _ := a.newestAndMoved()
+	a.mutex.Lock()
+	isKept := its.Epoch <= a.kept
+	a.mutex.Unlock()
+	if isKept {
+		return
+	}
+	if err := writeJSON(filepath.Join(a.room, "newest.json"), &its); err != nil {
+		a.log.Warn("the newest epoch is not on disk", "why", err)
+		return
+	}
+	a.mutex.Lock()
+	a.kept = its.Epoch
+	for token := range a.hosts {
+		name, err := names.Parse(token)
+		isNamed := name.Kind == "log" && its.State.Names(name.Epoch())
+		if err == nil && name.Epoch() != 0 && name.Epoch() < its.Epoch && !isNamed {
+			delete(a.hosts, token)
+		}
+	}
+	a.mutex.Unlock()
+	a.purge()
+}
+
+// move takes in that a version was committed. Others hear of those that were committed here each time that the agent
+// looks at its clock: storage servers do not ask for each one by itself.
 func (a *Agent) move(its *wire.Moved) {
-	a.moves(its)
-	its.At = a.bus.Clock.Now()
-	a.bus.Send(its, "moved")
-}
-
-func (a *Agent) moves(its *wire.Moved) {
 	a.mutex.Lock()
 	defer a.mutex.Unlock()
 	if its.Epoch == a.newest.Epoch && its.Version > a.moved {
 		a.moved = its.Version
+	}
+}
+
+// moves takes in what another agent says of that.
+func (a *Agent) moves(its *wire.Moved) {
+	a.move(its)
+	a.mutex.Lock()
+	defer a.mutex.Unlock()
+	if its.Epoch == a.newest.Epoch && its.Version > a.told {
+		a.told = its.Version
+	}
+}
+
+func (a *Agent) tellMoved() {
+	a.mutex.Lock()
+	its := &wire.Moved{Epoch: a.newest.Epoch, Version: a.moved, At: a.bus.Clock.Now()}
+	is := a.moved > a.told
+	a.told = a.moved
+	a.mutex.Unlock()
+	if is {
+		a.bus.Send(its, "moved")
 	}
 }
 
@@ -287,9 +341,21 @@ func (a *Agent) sayNow() {
 // tell says how the nodes are.
 func (a *Agent) tell() { a.bus.Send(a.alive(), "alive") }
 
+// standing is what alive says, and how long things take, which is for who asks.
+func (a *Agent) standing() *wire.Alive {
+	its := a.alive()
+	its.Fsync = a.fsyncs.Percentile(0.99)
+	for token, each := range its.Nodes {
+		if n := a.find(token); n != nil {
+			each.Slow, each.Bytes = n.slow.Percentile(0.99), a.bytesOf(token)
+		}
+	}
+	return its
+}
+
 func (a *Agent) alive() *wire.Alive {
 	its := &wire.Alive{Machine: a.machine.Name, Born: a.born, At: a.bus.Clock.Now(), Nodes: map[string]*wire.NodeView{},
-		Counts: a.bus.Counts.All(), Fsync: a.fsyncs.Percentile(0.99)}
+		Counts: a.bus.Counts.All()}
 	its.Newest, _ = a.newestAndMoved()
 	for _, n := range a.all() {
 		its.Nodes[n.name.Token()] = n.view()
@@ -316,7 +382,6 @@ func (n *node) view() *wire.NodeView {
 		its.Open, its.OpenFor = n.proxy.number, now.Sub(n.proxy.since).Milliseconds()
 	}
 	n.proxy.mutex.Unlock()
-	its.Slow = n.slow.Percentile(0.99)
 	return its
 }
 

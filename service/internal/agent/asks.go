@@ -6,6 +6,7 @@ import (
 	"time"
 
 	"fdbrec/service/internal/names"
+	"fdbrec/service/internal/raw"
 )
 
 // asks are what a proxy or a recoverer wants to be told. Each leaves at once, and again after a while that doubles.
@@ -17,8 +18,8 @@ type asks struct {
 	pause time.Duration
 	send  func(*wanted)
 	mutex sync.Mutex
-	its   map[string]*wanted
-	held  map[string]bool // marks of a chosen recoverer that their logs hold
+	its   map[uint64]*wanted
+	held  map[uint64]bool // marks of a chosen recoverer that their logs hold
 }
 
 type wanted struct {
@@ -28,15 +29,16 @@ type wanted struct {
 	pause time.Duration
 }
 
-const longestPause = 800 * time.Millisecond
+// longestPause is short beside the time in which a node comes back: who waits for it must not wait as long again.
+const longestPause = 200 * time.Millisecond
 
 // want takes all that the node wants now. What is new leaves; what is no longer wanted is forgotten.
 func (a *asks) want(list [][2]json.RawMessage) {
-	its := map[string]*wanted{}
+	its := map[uint64]*wanted{}
 	var fresh []*wanted
 	a.mutex.Lock()
 	for _, each := range list {
-		key := string(each[0]) + string(each[1])
+		key := hashed(each[0], each[1])
 		if a.held[key] {
 			continue
 		}
@@ -79,8 +81,7 @@ func (a *asks) again(now time.Time) {
 
 // isHeld forgets the mark for a log that holds it: a chosen recoverer goes on naming it.
 func (a *asks) isHeld(from names.Node, tell json.RawMessage) {
-	var told map[string]json.RawMessage
-	if json.Unmarshal(tell, &told) != nil || told["held"] == nil {
+	if raw.Member(tell, "held") == nil {
 		return
 	}
 	a.mutex.Lock()
@@ -88,7 +89,7 @@ func (a *asks) isHeld(from names.Node, tell json.RawMessage) {
 	for key, each := range a.its {
 		if each.to == from {
 			if a.held == nil {
-				a.held = map[string]bool{}
+				a.held = map[uint64]bool{}
 			}
 			a.held[key] = true
 			delete(a.its, key)

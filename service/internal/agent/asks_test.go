@@ -49,19 +49,20 @@ func TestAnAnswerDoesNotMultiply(t *testing.T) {
 // What is asked again waits twice as long each time, up to a limit; what is no longer wanted is not asked.
 func TestAgain(t *testing.T) {
 	sent := 0
-	a := &asks{pause: 100 * time.Millisecond, send: func(*wanted) { sent++ }}
+	a := &asks{pause: 20 * time.Millisecond, send: func(*wanted) { sent++ }}
 	now := time.Now()
 	a.want(marks(1))
 	for step := 1; step <= 100; step++ {
-		a.again(now.Add(time.Duration(step) * 100 * time.Millisecond))
+		a.again(now.Add(time.Duration(step) * 20 * time.Millisecond))
 	}
-	// at 0.2, 0.5, 1.0 (and then each 0.9 s at the earliest, on a grid of 0.1 s)
-	if sent < 12 || sent > 16 {
-		t.Errorf("%d in 10 s", sent)
+	// at once, at 0.04, 0.10, 0.20, 0.38 seconds, and then each 0.22 (each time at the next step behind a pause)
+	if sent < 11 || sent > 13 {
+		t.Errorf("%d in 2 s", sent)
 	}
 	a.want(nil)
+	was := sent
 	a.again(now.Add(time.Hour))
-	if sent > 16 || !a.isEmpty() {
+	if sent != was || !a.isEmpty() {
 		t.Errorf("what is not wanted is asked")
 	}
 }

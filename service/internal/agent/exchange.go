@@ -9,6 +9,7 @@ import (
 
 	"fdbrec/service/internal/journal"
 	"fdbrec/service/internal/process"
+	"fdbrec/service/internal/raw"
 	"fdbrec/service/internal/wire"
 )
 
@@ -16,10 +17,6 @@ import (
 func (n *node) run() error {
 	for {
 		group, hold := n.takeNext()
-		if n.isLate(group) {
-			n.forget(group[0])
-			continue
-		}
 		if n.isStopped() {
 			n.entering(group)
 			return nil
@@ -65,16 +62,6 @@ func (n *node) takeNext() (group []*item, hold <-chan time.Time) {
 	return group, hold
 }
 
-// isLate says whether a pop was sent before the newest epoch was known: the storage server may have dropped the log's
-// generation since, and would not send it any more. It may have waited here for long, so it is judged as it is given.
-func (n *node) isLate(group []*item) bool {
-	if len(group) != 1 || group[0].sort != "pop" || group[0].newest >= n.agent.newestEpoch() {
-		return false
-	}
-	n.agent.bus.Counts.Add("late pops dropped", 1)
-	return true
-}
-
 func (n *node) whyEnded() error {
 	text := n.process.Status()
 	if said := strings.TrimSpace(process.Said(n.agent.said(n.name))); said != "" {
@@ -88,12 +75,12 @@ func (n *node) whyEnded() error {
 func (n *node) line(its *body) ([]byte, error) {
 	n.number++
 	its.Number = n.number
-	text, err := json.Marshal(struct {
-		Src  string `json:"src"`
-		Dest string `json:"dest"`
-		Body *body  `json:"body"`
-	}{"agent", n.name.Spoken(), its})
-	return append(text, '\n'), err
+	body, err := its.text(n.number)
+	if err != nil {
+		return nil, err
+	}
+	text := append(make([]byte, 0, len(body)+80), `{"src":"agent","dest":"`+n.name.Spoken()+`","body":`...)
+	return append(append(text, body...), '}', '\n'), nil
 }
 
 // talk gives one line that is not of the queue, and reads its answer.
@@ -133,19 +120,26 @@ func (n *node) read(its *body) (*answer, error) {
 }
 
 func (n *node) parse(its *body, text []byte) (*answer, error) {
-	var line struct {
-		Src  string `json:"src"`
-		Dest string `json:"dest"`
-		Body answer `json:"body"`
-	}
-	err := json.Unmarshal(text, &line)
-	is := err == nil && line.Src == n.name.Spoken() && line.Dest == "agent" && line.Body.InReplyTo != nil &&
-		*line.Body.InReplyTo == its.Number && (line.Body.Type == its.Type+"_ok" || line.Body.Type == "error")
+	var src, dest string
+	found := &answer{}
+	is := raw.Members(text, func(name string, value []byte) (is bool) {
+		switch is = true; name {
+		case "src":
+			src, is = raw.Text(value)
+		case "dest":
+			dest, is = raw.Text(value)
+		case "body":
+			is = found.read(value)
+		}
+		return is
+	})
+	is = is && src == n.name.Spoken() && dest == "agent" && found.InReplyTo != nil && *found.InReplyTo == its.Number &&
+		(found.Type == its.Type+"_ok" || found.Type == "error")
 	if !is {
 		n.process.Kill()
 		return nil, fmt.Errorf("it answers line %d, %s, by %.200s", its.Number, its.Type, text)
 	}
-	return &line.Body, nil
+	return found, nil
 }
 
 // exchange gives lines together, and takes their answers as they come: first into the journal, then what they bring
@@ -153,12 +147,17 @@ func (n *node) parse(its *body, text []byte) (*answer, error) {
 func (n *node) exchange(group []*item) ([]*item, error) {
 	var records []journal.Record
 	var text []byte
-	at := n.agent.bus.Clock.Now()
+	at := n.stampFor(group)
+	if isLatePop(group, at) {
+		n.agent.bus.Counts.Add("late pops dropped", 1)
+		n.forget(group[0])
+		return nil, nil
+	}
 	for _, it := range group {
 		it.body.Number = 0
 		if it.body.enters() && !it.regive {
 			it.body.At = &at
-			given, err := json.Marshal(&it.body)
+			given, err := it.body.text(0)
 			if err != nil {
 				return group, err
 			}
@@ -178,7 +177,11 @@ func (n *node) exchange(group []*item) ([]*item, error) {
 	}
 	n.with(time.Now())
 	its := n.process
-	go func() { _ = its.Write(text) }()
+	if len(text) <= process.Room {
+		_ = its.Write(text) // (what it was given before it has read, since it answered all of it)
+	} else {
+		go func() { _ = its.Write(text) }()
+	}
 	left, err := n.answers(group)
 	n.with(time.Time{})
 	return n.entering(left), err
@@ -245,7 +248,7 @@ func (n *node) takeAll(group []*item, found []*answer) error {
 		case its.Type == "error":
 			records = append(records, journal.Record{Refused: its.Code})
 		default:
-			records = append(records, journal.Record{Answer: &journal.Said{Entries: its.entries(), Last: bare(its.Last)}})
+			records = append(records, journal.Record{Answer: &journal.Said{Entries: its.Entries, Last: its.stands()}})
 		}
 	}
 	if err := n.write(records...); err != nil {
@@ -265,17 +268,17 @@ func (n *node) takeAll(group []*item, found []*answer) error {
 // took does what an answer brings about: tells and asks leave, and whoever waits is told.
 func (n *node) took(it *item, its *answer) {
 	n.heed(its)
-	for _, text := range its.entries() {
+	for _, text := range its.Entries {
 		var entry act
-		if err := json.Unmarshal(text, &entry); err != nil {
+		if !entry.read(text) {
 			n.agent.log.Error("an entry that is none", "node", n.name.Spoken(), "entry", string(text))
 			continue
 		}
-		n.agent.bus.Clock.See(entry.Stamp)
-		if asked := entry.Act.Asked; asked != nil {
-			n.agent.send(asked.From, &wire.Message{Type: "hear", From: n.name, Tell: asked.Tell})
-		}
-		if heard := entry.Act.Heard; heard != nil {
+		n.agent.bus.Clock.See(entry.stamp)
+		switch entry.kind {
+		case "asked":
+			n.agent.send(entry.from, &wire.Message{Type: "hear", From: n.name, Tell: entry.tell})
+		case "heard":
 			n.heard(&entry)
 		}
 	}
@@ -291,18 +294,19 @@ func (n *node) took(it *item, its *answer) {
 }
 
 func (n *node) heard(entry *act) {
-	its := entry.Act.Heard
+	_, tell := raw.Only(entry.tell)
 	switch n.name.Kind {
 	case "proxy":
-		n.proxy.numbered(its.Tell["seq"])
-		for name, each := range its.Outcome {
-			n.proxy.outcome(name, each.Version)
+		n.proxy.numbered(tell)
+		if name, its := raw.Only(entry.outcome); name != "" {
+			version, _ := raw.Number(raw.Member(its, "version"))
+			n.proxy.outcome(name, version)
 		}
 	case "storage":
-		n.storage.heard(its.From, its.Tell["log"])
+		n.storage.heard(entry.from, tell)
 	case "recoverer":
 		if _, is := chosen(n.phase()); is {
-			n.asks.isHeld(its.From, its.Tell["log"])
+			n.asks.isHeld(entry.from, tell)
 		}
 	}
 }
@@ -317,12 +321,13 @@ func (n *node) heed(its *answer) {
 		n.agent.bus.Counts.Add("lines refused", 1)
 		return
 	}
-	if its.Last == nil {
+	last := its.stands()
+	if last == nil {
 		return
 	}
 	var stands where
-	if json.Unmarshal(its.Last, &stands) == nil {
+	if json.Unmarshal(last, &stands) == nil {
 		n.where = stands
 	}
-	n.last = bare(its.Last)
+	n.last = last
 }

@@ -29,7 +29,7 @@ func (a *Agent) Health() string {
 
 // Metrics are the figures of this machine.
 func (a *Agent) Metrics() string {
-	its, made := a.alive(), &report.Metrics{}
+	its, made := a.standing(), &report.Metrics{}
 	made.Counts(its.Counts)
 	made.Add("gauge", "epoch", its.Newest.Epoch)
 	made.Add("gauge", "linked_seconds", a.bus.Linked().Seconds())
@@ -40,7 +40,7 @@ func (a *Agent) Metrics() string {
 		made.Add("gauge", "node_lines_waiting", each.Lines, "node", token)
 		made.Add("gauge", "node_oldest_line_seconds", float64(each.Waiting)/1000, "node", token)
 		made.Add("gauge", "node_answer_p99_seconds", each.Slow/1000, "node", token)
-		made.Add("gauge", "node_file_bytes", a.bytesOf(token), "node", token)
+		made.Add("gauge", "node_file_bytes", each.Bytes, "node", token)
 		made.Add("counter", "node_errors_total", each.Errors, "node", token)
 		made.Add("counter", "node_starts_total", each.Starts, "node", token)
 		var stands where

@@ -3,12 +3,14 @@ package agent
 import (
 	"encoding/json"
 	"fmt"
-	"os"
+	"hash/maphash"
+	"strconv"
 	"strings"
 	"sync"
 
 	"fdbrec/service/internal/bus"
 	"fdbrec/service/internal/names"
+	"fdbrec/service/internal/raw"
 	"fdbrec/service/internal/wire"
 )
 
@@ -22,7 +24,7 @@ func (a *Agent) listen() error {
 		{a.others, []string{"alive"}},
 		{a.epoch, []string{"epoch"}},
 		{a.movement, []string{"moved"}},
-		{func(m *bus.Received) { a.bus.Reply(m.Reply, a.alive()) }, []string{"status"}},
+		{func(m *bus.Received) { a.bus.Reply(m.Reply, a.standing()) }, []string{"status"}},
 		{func(m *bus.Received) { its, _ := a.newestAndMoved(); a.bus.Reply(m.Reply, its) }, []string{"who"}},
 	} {
 		if _, err := a.bus.Hear("", each.take, each.parts...); err != nil {
@@ -52,7 +54,8 @@ func (a *Agent) strange(m *bus.Received, why string) {
 // receive takes an ask or a tell for a node of this machine.
 func (a *Agent) receive(n *node, m *bus.Received) {
 	var its wire.Message
-	if !a.parse(m, &its, nil) {
+	if err := its.Read(m.Data); err != nil {
+		a.strange(m, err.Error())
 		return
 	}
 	if err := its.Judge(n.name); err != nil {
@@ -94,38 +97,64 @@ func (a *Agent) deliver(n *node, its *wire.Message) {
 	a.bus.Clock.See(its.At)
 	from := its.From
 	it := &item{body: body{Type: its.Type, From: &from, Ask: its.Ask, Tell: its.Tell}}
-	it.key = from.Token() + string(its.Ask) + string(its.Tell)
+	it.key = keyOf(from, its.Ask, its.Tell)
 	if n.name.Kind == "log" {
-		it.sort, it.from, it.to, _ = pushed(its.Ask)
-		it.newest = its.Newest
+		it.sort, it.from, it.to = pushed(its.Ask)
+		it.until = its.Until
 	}
 	n.put(it)
 }
 
 // send sends an ask or a tell: here, if the node is on this machine.
 func (a *Agent) send(to names.Node, its *wire.Message) {
-	its.At, its.Newest = a.bus.Clock.Now(), a.newestEpoch()
+	its.At = a.bus.Clock.Now()
 	if n := a.find(to.Token()); n != nil {
 		a.deliver(n, its)
 		return
 	}
-	a.bus.Send(its, "node", to.Token())
+	text, err := its.Text()
+	if err != nil {
+		a.log.Error("a message cannot be spelled", "to", to.Spoken(), "why", err)
+		return
+	}
+	a.bus.SendText(text, "node", to.Token())
+}
+
+var seed = maphash.MakeSeed()
+
+// keyOf is a short name of an ask or a tell. Two that differ have one name about once in 2^64 times; then one of them is
+// taken for a repeat, and is asked again.
+func keyOf(from names.Node, ask, tell []byte) string {
+	return from.Token() + strconv.FormatUint(hashed(ask, tell), 16)
+}
+
+func hashed(one, other []byte) uint64 {
+	var its maphash.Hash
+	its.SetSeed(seed)
+	_, _ = its.Write(one)
+	_, _ = its.Write(other)
+	return its.Sum64()
 }
 
 // others takes in which nodes other machines have.
 func (a *Agent) others(m *bus.Received) {
-	var its wire.Alive
-	if m.Sender == a.machine.Name || !a.parse(m, &its, nil) || !a.bus.Clock.Takes(its.At) {
+	if m.Sender == a.machine.Name {
 		return
 	}
-	a.bus.Clock.See(its.At)
+	at, is := raw.Number(raw.Member(m.Data, "at"))
+	if !is || !a.bus.Clock.Takes(at) {
+		a.strange(m, "it is none of ours")
+		return
+	}
+	a.bus.Clock.See(at)
 	a.mutex.Lock()
 	defer a.mutex.Unlock()
-	for token := range its.Nodes {
+	raw.Members(raw.Member(m.Data, "nodes"), func(token string, _ []byte) bool {
 		if a.hosts[token] == "" && len(a.hosts) < 100000 {
 			a.hosts[token] = m.Sender
 		}
-	}
+		return true
+	})
 }
 
 func (a *Agent) epoch(m *bus.Received) {
@@ -183,9 +212,9 @@ func text(err error) string {
 }
 
 func (a *Agent) obey(its wire.Order) error {
-	lock, _ := a.orders.LoadOrStore(its.Node, &sync.Mutex{})
-	lock.(*sync.Mutex).Lock()
-	defer lock.(*sync.Mutex).Unlock()
+	lock := a.lockOf(its.Node)
+	lock.Lock()
+	defer lock.Unlock()
 	switch kind := its.Node.Kind; {
 	case its.First || kind == "cell" || kind == "storage":
 		return fmt.Errorf("a %s is made by init alone", kind)
@@ -199,7 +228,16 @@ func (a *Agent) obey(its wire.Order) error {
 	return fmt.Errorf("it is no order")
 }
 
+// lockOf lets one order after another be done of each node.
+func (a *Agent) lockOf(name names.Node) *sync.Mutex {
+	lock, _ := a.orders.LoadOrStore(name, &sync.Mutex{})
+	return lock.(*sync.Mutex)
+}
+
 func (a *Agent) startNode(its wire.Order) error {
+	if a.isOver(its.Node) {
+		return fmt.Errorf("its epoch is over")
+	}
 	old, err := a.recordOf(its.Node)
 	if err != nil {
 		return err
@@ -227,24 +265,27 @@ func (a *Agent) startNode(its wire.Order) error {
 // endNode ends a node for good. A log's files go too; its journal stays.
 func (a *Agent) endNode(its wire.Order, state string) error {
 	old, err := a.recordOf(its.Node)
-	if err != nil || old == nil || old.State == "ended" || old.State == "dropped" {
+	if err != nil {
 		return err
 	}
 	if n := a.find(its.Node.Token()); n != nil {
 		a.remove(n)
 		a.forget(n.name)
 	}
-	a.orders.Delete(its.Node)
+	if old == nil || old.State == "ended" || old.State == "dropped" {
+		return nil
+	}
 	if err := a.note(old.Order, state); err != nil {
 		return err
 	}
-	for _, path := range append(a.files(its.Node), a.room+"/locks/"+its.Node.Token()) {
-		if state == "dropped" {
-			if err := os.Remove(path); err != nil && !os.IsNotExist(err) {
-				return err
-			}
+	if state == "dropped" {
+		if err := removeAll(a.files(its.Node)); err != nil {
+			return err
 		}
 	}
 	a.log.Info("node", "node", its.Node.Spoken(), "state", state)
+	if a.isOver(its.Node) {
+		return a.erase(its.Node)
+	}
 	return nil
 }

@@ -12,13 +12,15 @@ import (
 	"fdbrec/service/internal/journal"
 	"fdbrec/service/internal/names"
 	"fdbrec/service/internal/process"
+	"fdbrec/service/internal/raw"
 	"fdbrec/service/internal/report"
 	"fdbrec/service/internal/wire"
 )
 
 const (
-	longest     = 2000            // lines that wait for one node; what comes then is lost
-	longestRest = 5 * time.Second // before a node that failed is started again
+	longest     = 2000                  // lines that wait for one node; what comes then is lost
+	shortRest   = 10 * time.Millisecond // before a node that failed is started again, the first time
+	longestRest = 5 * time.Second       // and after many times
 )
 
 // node is a node of this machine: its process, its journal, and the lines that wait for it.
@@ -64,6 +66,7 @@ func (a *Agent) newNode(order wire.Order, state string) *node {
 		wake: make(chan struct{}, 1), stop: make(chan struct{}), ending: make(chan struct{}), queued: map[string]bool{},
 		state: "starting", since: time.Now()}
 	n.proxy.node, n.storage.node = n, n
+	n.storage.pops.path = filepath.Join(a.room, "pops", n.name.Token()+".json")
 	n.asks.pause = a.config.Again
 	n.asks.send = func(each *wanted) { a.send(each.to, &wire.Message{Type: "ask", From: n.name, Ask: each.ask}) }
 	return n
@@ -123,7 +126,14 @@ func (n *node) serve() {
 	}
 	defer n.journal.Close()
 	n.agent.bus.Clock.See(n.journal.Tail.Stamp)
-	for pause := 50 * time.Millisecond; ; {
+	if n.name.Kind == "storage" {
+		if err := n.storage.pops.open(); err != nil {
+			n.set("failed", err.Error())
+			<-n.stop
+			return
+		}
+	}
+	for pause := shortRest; ; {
 		began := time.Now()
 		err = n.begin()
 		if err == nil {
@@ -140,7 +150,7 @@ func (n *node) serve() {
 		}
 		n.set("failed", err.Error())
 		if time.Since(began) > longestRest {
-			pause = 50 * time.Millisecond
+			pause = shortRest
 		}
 		select {
 		case <-n.stop:
@@ -297,9 +307,9 @@ func (n *node) findLeft() error {
 
 // keep enters an answer to a line that is not one of those given: `settles` is the one that it answers too.
 func (n *node) keep(it *item, its *answer, settles *item) error {
-	record := journal.Record{Entries: its.entries(), Last: bare(its.Last)}
+	record := journal.Record{Entries: its.Entries, Last: its.stands()}
 	if settles != nil {
-		record = journal.Record{Answer: &journal.Said{Entries: its.entries(), Last: bare(its.Last)}}
+		record = journal.Record{Answer: &journal.Said{Entries: its.Entries, Last: its.stands()}}
 	}
 	if err := n.write(record); err != nil {
 		return err
@@ -308,13 +318,17 @@ func (n *node) keep(it *item, its *answer, settles *item) error {
 	return nil
 }
 
-// write writes to the journal, and waits while there is no room: nothing may be done that is not written.
+// write writes to the journal, and waits while there is no room: nothing may be done that is not written. Until then the
+// node is failed, and afterwards again what it was.
 func (n *node) write(records ...journal.Record) error {
-	for {
-		err := n.journal.Write(records...)
-		if err == nil {
-			return nil
-		}
+	err := n.journal.Write(records...)
+	if err == nil {
+		return nil
+	}
+	n.mutex.Lock()
+	state, why := n.state, n.why
+	n.mutex.Unlock()
+	for err != nil {
 		n.set("failed", "its journal cannot be written: "+err.Error())
 		select {
 		case <-n.stop:
@@ -324,7 +338,10 @@ func (n *node) write(records ...journal.Record) error {
 		if n.process == nil {
 			return err
 		}
+		err = n.journal.Write(records...)
 	}
+	n.set(state, why)
+	return nil
 }
 
 // die enters that a node without files is gone.
@@ -343,7 +360,9 @@ func (n *node) end() {
 	if n.process == nil {
 		return
 	}
-	if its, err := n.talk(&body{Type: "last"}); err == nil && its.Last != nil {
+	// (a line whose answer found no room in the journal is given again at the next start; what came of it is in no entry,
+	// so where the node stands now is not where its journal ends)
+	if its, err := n.talk(&body{Type: "last"}); err == nil && its.Last != nil && len(n.journal.Tail.Open) == 0 {
 		_ = n.journal.Write(journal.Record{Last: its.Last})
 	}
 	n.process.End(5 * time.Second)
@@ -364,12 +383,15 @@ func (n *node) dropAll() {
 
 // bare is a last state without a storage server's rows.
 func bare(last json.RawMessage) json.RawMessage {
-	var its where
-	if len(last) < 200 || json.Unmarshal(last, &its) != nil || its.Storage == nil {
+	kind, its := raw.Only(last)
+	if kind != "storage" || raw.Member(its, "rows") == nil {
 		return last
 	}
-	text, _ := json.Marshal(where{Storage: its.Storage})
-	return text
+	text := []byte(`{"storage":`)
+	for at, name := range []string{"epoch", "floor", "version"} {
+		text = append(append(append(append(text, "{,,"[at], '"'), name...), '"', ':'), raw.Member(its, name)...)
+	}
+	return append(text, "}}"...)
 }
 
 func (a *Agent) said(name names.Node) string { return filepath.Join(a.room, "said", name.Token()) }

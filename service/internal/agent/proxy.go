@@ -6,6 +6,7 @@ import (
 	"sync"
 	"time"
 
+	"fdbrec/service/internal/raw"
 	"fdbrec/service/internal/wire"
 )
 
@@ -20,6 +21,7 @@ type proxy struct {
 	since   time.Time
 	request uint64 // the node's own number of the batch that it took last
 	version uint64 // that the open batch was given; 0 before
+	crowded bool   // more waited than the open batch took
 	ended   bool
 	moved   time.Time // when a batch was last committed
 	settled bool      // whether an empty batch was since, so that the logs know of it
@@ -132,6 +134,7 @@ func (p *proxy) begin() {
 		size, count = size+one.size, count+len(one.mutations)
 		p.open, p.waiting = append(p.open, one), p.waiting[1:]
 	}
+	p.crowded = len(p.waiting) > 0
 	p.settled = len(p.open) == 0
 	p.count++
 	p.number, p.since = p.count, time.Now()
@@ -169,7 +172,7 @@ func (p *proxy) submitted(number uint64, its *answer) {
 func (p *proxy) close(say func(*submission) wire.Submitted) {
 	for _, one := range p.open {
 		its := say(one)
-		its.Epoch, its.At = p.node.name.First, p.node.agent.bus.Clock.Now()
+		its.Epoch, its.At, its.IsCrowded = p.node.name.First, p.node.agent.bus.Clock.Now(), p.crowded
 		one.reply(its)
 	}
 	p.open, p.number, p.version = nil, 0, 0
@@ -177,19 +180,13 @@ func (p *proxy) close(say func(*submission) wire.Submitted) {
 
 // numbered hears that the open batch was given a version.
 func (p *proxy) numbered(tell json.RawMessage) {
-	var told struct {
-		Numbered *struct {
-			Request uint64 `json:"request"`
-			Version uint64 `json:"version"`
-		} `json:"numbered"`
-	}
-	if json.Unmarshal(tell, &told) != nil || told.Numbered == nil {
-		return
-	}
+	numbered := raw.Member(tell, "numbered")
+	request, is := raw.Number(raw.Member(numbered, "request"))
+	version, has := raw.Number(raw.Member(numbered, "version"))
 	p.mutex.Lock()
 	defer p.mutex.Unlock()
-	if p.number != 0 && told.Numbered.Request == p.request {
-		p.version = told.Numbered.Version
+	if is && has && p.number != 0 && request == p.request {
+		p.version = version
 	}
 }
 

@@ -41,7 +41,7 @@ func TestTakenOnce(t *testing.T) {
 		t.Fatal("what is under way is taken again")
 	}
 	p.close(func(*submission) wire.Submitted { return wire.Submitted{Committed: true, Version: 9} })
-	if fmt.Sprint(told) != "[{true false  false 513 9 0} {true false  false 513 9 0}]" {
+	if fmt.Sprint(told) != "[{true false  false false 513 9 0} {true false  false false 513 9 0}]" {
 		t.Fatalf("%v", told)
 	}
 	put(p, "a1", &told)

@@ -52,8 +52,8 @@ func (n *node) recovers(its *answer) {
 	if was == nil || was.Phase != now.Phase || was.Seeding != now.Seeding || was.IsMarked != now.IsMarked {
 		n.agent.log.Info("recoverer", "ballot", n.name.First, "phase", phase, "seeding", now.Seeding, "marked", now.IsMarked)
 		if now.Epoch != nil && (was == nil || was.Epoch == nil) {
-			n.agent.learn(now.Epoch)
 			n.agent.bus.Send(now.Epoch, "epoch")
+			n.agent.learn(now.Epoch)
 		}
 		n.agent.sayNow()
 	}

@@ -20,6 +20,7 @@ import (
 //	nodes/       for each node that was ever started here its order, and how far it came
 //	files/       of the nodes
 //	journals/    of the nodes, a folder each
+//	pops/        of each storage server the stamp until which its pops may be entered, at most
 //	locks/, said/, configs/, newest.json, agent.pid
 
 // Start is the config of the world's start, in the form of a script.
@@ -51,6 +52,18 @@ func StartOf(c *config.Config) Start {
 	return Start{c.Coordinators, c.Degree, c.Logs, c.Proxies, c.Shards}
 }
 
+// SequencerAt is the machine of the sequencer, where the first machines have the logs.
+func SequencerAt(logs uint64) uint64 { return logs }
+
+// ProxyAt is the machine of a proxy. The first two, which clients use first, are beside the sequencer: each batch asks it for
+// a number, and without the sequencer the epoch is over anyway.
+func ProxyAt(logs, number uint64) uint64 {
+	if number < 2 {
+		return logs
+	}
+	return logs + number - 1
+}
+
 // FirstNodes are the nodes with which a machine begins.
 func FirstNodes(c *config.Config, machine *config.Machine) []wire.Order {
 	var found []wire.Order
@@ -70,11 +83,11 @@ func FirstNodes(c *config.Config, machine *config.Machine) []wire.Order {
 			add("log", First, at)
 		}
 	}
-	if mine(c.Logs) {
+	if mine(SequencerAt(c.Logs)) {
 		add("sequencer", First, 0)
 	}
 	for at := uint64(0); at < c.Proxies; at++ {
-		if mine(c.Logs + 1 + at) {
+		if mine(ProxyAt(c.Logs, at)) {
 			add("proxy", First, at)
 		}
 	}
@@ -147,6 +160,9 @@ func (a *Agent) records() ([]record, error) {
 	var found []record
 	for _, path := range paths {
 		text, err := os.ReadFile(path)
+		if os.IsNotExist(err) {
+			continue
+		}
 		if err != nil {
 			return nil, err
 		}

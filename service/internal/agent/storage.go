@@ -5,6 +5,7 @@ import (
 	"time"
 
 	"fdbrec/service/internal/names"
+	"fdbrec/service/internal/raw"
 	"fdbrec/service/internal/wire"
 )
 
@@ -14,9 +15,10 @@ type storage struct {
 	turn    uint64
 	asked   time.Time // when it was last asked what it wants
 	asking  bool      // and whether it has not answered that
-	eager   bool      // what it heard last brought it further
+	eager   bool      // it wants more at once: there is more, or a read waits
 	popped  map[names.Node]uint64
 	popping map[names.Node]time.Time
+	pops    popStamps
 	reads   []*read
 }
 
@@ -28,9 +30,12 @@ type read struct {
 }
 
 const (
-	idle   = 500 * time.Millisecond // between two pulls if nothing was committed
-	behind = 25 * time.Millisecond  // if something was, and nothing came of the last pull
-	pops   = 400 * time.Millisecond // between two pops at one log
+	idle     = 500 * time.Millisecond // between two pulls if nothing was committed
+	trailing = 100 * time.Millisecond // if something was: what came meanwhile is one answer, and one sync
+	behind   = 25 * time.Millisecond  // if the epoch is a newer one
+	awaited  = 5 * time.Millisecond   // if a read waits for more, and nothing came of the last pull
+	popPause = 400 * time.Millisecond // between two pops at one log
+	whole    = 100                    // records in an answer: there may be more
 )
 
 // pull has the storage server say what it asks, if that is due.
@@ -44,11 +49,16 @@ func (s *storage) pull(now time.Time) {
 		return
 	}
 	pause := idle
-	if its.Epoch < newest.Epoch || its.Version < moved {
+	switch isBehind := its.Epoch < newest.Epoch; {
+	case !isBehind && its.Version >= moved && len(s.reads) == 0:
+	case s.eager:
+		pause = 0
+	case len(s.reads) > 0:
+		pause = awaited
+	case isBehind:
 		pause = behind
-		if s.eager {
-			pause = 0
-		}
+	default:
+		pause = trailing
 	}
 	if now.Sub(s.asked) < pause {
 		n.mutex.Unlock()
@@ -76,10 +86,18 @@ func (s *storage) wants(its *answer) {
 		if json.Unmarshal(each[0], &to) != nil {
 			continue
 		}
-		if sort, _, _, _ := pushed(each[1]); sort == "pop" && !s.mayPop(to) {
-			continue
+		its := &wire.Message{Type: "ask", From: s.node.name, Ask: each[1]}
+		if sort, _, _ := pushed(each[1]); sort == "pop" {
+			if !s.mayPop(to) {
+				continue
+			}
+			var err error
+			if its.Until, err = s.pops.next(s.node.agent.bus.Clock.Now()); err != nil {
+				s.node.agent.log.Warn("a pop is not sent", "node", s.node.name.Spoken(), "why", err)
+				continue
+			}
 		}
-		s.node.agent.send(to, &wire.Message{Type: "ask", From: s.node.name, Ask: each[1]})
+		s.node.agent.send(to, its)
 	}
 }
 
@@ -90,7 +108,7 @@ func (s *storage) mayPop(to names.Node) bool {
 		s.popped, s.popping = map[names.Node]uint64{}, map[names.Node]time.Time{}
 	}
 	its := s.node.where.Storage
-	if its == nil || its.Floor <= s.popped[to] || time.Since(s.popping[to]) < pops {
+	if its == nil || its.Floor <= s.popped[to] || time.Since(s.popping[to]) < popPause {
 		return false
 	}
 	s.popping[to] = time.Now()
@@ -99,23 +117,17 @@ func (s *storage) mayPop(to names.Node) bool {
 
 // heard looks at what it heard: more may be there, and reads that waited may be served.
 func (s *storage) heard(from names.Node, tell json.RawMessage) {
-	var told struct {
-		Peeked *struct {
-			Records []json.RawMessage `json:"records"`
-		} `json:"peeked"`
-		Popped *struct {
-			Through uint64 `json:"through"`
-		} `json:"popped"`
-		Marked *struct{} `json:"marked"`
-	}
-	if json.Unmarshal(tell, &told) != nil {
-		return
-	}
+	kind, its := raw.Only(tell)
+	came := 0
+	raw.Elements(raw.Member(its, "records"), func([]byte) bool { came++; return true })
+	through, _ := raw.Number(raw.Member(its, "through"))
 	s.node.mutex.Lock()
-	if told.Popped != nil && s.popped != nil {
-		s.popped[from] = told.Popped.Through
-	}
-	if told.Peeked != nil && len(told.Peeked.Records) > 0 || told.Marked != nil {
+	switch {
+	case kind == "popped" && s.popped != nil:
+		s.popped[from] = through
+	case kind == "peeked":
+		s.eager = came >= whole || came > 0 && len(s.reads) > 0
+	case kind == "marked":
 		s.eager = true
 	}
 	s.node.mutex.Unlock()

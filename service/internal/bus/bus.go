@@ -9,6 +9,7 @@ import (
 	"fmt"
 	"os"
 	"strings"
+	"sync"
 	"sync/atomic"
 	"time"
 
@@ -49,6 +50,10 @@ type Bus struct {
 	Counts *report.Counts
 	linked int64 // when it was connected, in nanoseconds since it was made; 0 while it is not
 	born   time.Time
+	log    *report.Log
+	mutex  sync.Mutex
+	said   map[string]time.Time // what the broker refused, and when that was last logged
+	why    error                // what it refused last
 }
 
 // Received is a message with the sender that its subject names.
@@ -59,10 +64,12 @@ type Received struct {
 	Token  string // the part before the sender
 }
 
-// Connect connects. With patient it goes on trying for ever, in the background; else the first try counts.
-func Connect(c *config.Config, sender, nkey string, patient bool, within time.Duration) (*Bus, error) {
-	b := &Bus{prefix: "fdbrec." + c.Cluster + ".", sender: sender, Clock: &Clock{}, Counts: &report.Counts{}, born: time.Now()}
-	options, err := b.options(c, nkey, patient, within)
+// Connect connects. With a log it goes on trying for ever, in the background, and says there what a broker refuses; else
+// the first try counts.
+func Connect(c *config.Config, sender, nkey string, log *report.Log, within time.Duration) (*Bus, error) {
+	b := &Bus{prefix: "fdbrec." + c.Cluster + ".", sender: sender, Clock: &Clock{}, Counts: &report.Counts{}, born: time.Now(),
+		log: log, said: map[string]time.Time{}}
+	options, err := b.options(c, nkey, within)
 	if err != nil {
 		return nil, err
 	}
@@ -76,18 +83,35 @@ func Connect(c *config.Config, sender, nkey string, patient bool, within time.Du
 			return nil, fmt.Errorf("the broker takes messages of %d bytes; max_payload in %s is %d", most, c.Path, c.MaxPayload)
 		}
 	}
+	if log != nil {
+		go b.watch()
+	}
 	return b, nil
 }
 
-func (b *Bus) options(c *config.Config, nkey string, patient bool, within time.Duration) ([]nats.Option, error) {
+// watch says each ten seconds that there is no broker, and why.
+func (b *Bus) watch() {
+	for !b.conn.IsClosed() {
+		if !b.conn.IsConnected() {
+			b.log.Warn("no broker", "why", b.conn.LastError())
+		}
+		time.Sleep(10 * time.Second)
+	}
+}
+
+func (b *Bus) options(c *config.Config, nkey string, within time.Duration) ([]nats.Option, error) {
 	its := []nats.Option{
 		nats.Name(b.sender), nats.MaxReconnects(-1), nats.ReconnectWait(100 * time.Millisecond),
 		nats.ReconnectJitter(50*time.Millisecond, 50*time.Millisecond), nats.ReconnectBufSize(-1),
 		nats.PingInterval(500 * time.Millisecond), nats.MaxPingsOutstanding(2), nats.FlusherTimeout(time.Second),
-		nats.Timeout(within), nats.RetryOnFailedConnect(patient), nats.CustomInboxPrefix(b.prefix + "inbox"),
+		nats.Timeout(within), nats.RetryOnFailedConnect(b.log != nil), nats.CustomInboxPrefix(b.prefix + "inbox"),
 		nats.DisconnectErrHandler(func(*nats.Conn, error) { b.link(false); b.Counts.Add("links lost", 1) }),
 		nats.ReconnectHandler(func(*nats.Conn) { b.link(true); b.Counts.Add("links made again", 1) }),
-		nats.ErrorHandler(func(*nats.Conn, *nats.Subscription, error) { b.Counts.Add("messages dropped by the client", 1) }),
+		nats.ErrorHandler(func(_ *nats.Conn, _ *nats.Subscription, err error) { b.refused(err) }),
+	}
+	if b.log != nil {
+		// (its key may be told the brokers later)
+		its = append(its, nats.IgnoreAuthErrorAbort())
 	}
 	if c.CA != "" {
 		its = append(its, nats.RootCAs(c.CA))
@@ -114,6 +138,25 @@ func (b *Bus) options(c *config.Config, nkey string, patient bool, within time.D
 		}
 	}
 	return its, nil
+}
+
+// refused notes that the broker refused something, or that a message was dropped here: a line of the log each ten seconds.
+func (b *Bus) refused(err error) {
+	b.Counts.Add("messages refused or dropped", 1)
+	b.mutex.Lock()
+	defer b.mutex.Unlock()
+	b.why = err
+	if text := err.Error(); b.log != nil && time.Since(b.said[text]) > 10*time.Second && len(b.said) < 100 {
+		b.said[text] = time.Now()
+		b.log.Warn("the broker refused something, or a message was dropped", "why", text)
+	}
+}
+
+// Why is what the broker refused last, or nil.
+func (b *Bus) Why() error {
+	b.mutex.Lock()
+	defer b.mutex.Unlock()
+	return b.why
 }
 
 func (b *Bus) link(is bool) {
@@ -156,6 +199,11 @@ func (b *Bus) Send(message interface{}, parts ...string) {
 		err = b.conn.Publish(b.Subject(parts...), data)
 	}
 	b.sent(err)
+}
+
+// SendText sends a message whose text is made.
+func (b *Bus) SendText(text []byte, parts ...string) {
+	b.sent(b.conn.Publish(b.Subject(parts...), text))
 }
 
 func (b *Bus) sent(err error) {

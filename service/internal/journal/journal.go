@@ -13,14 +13,17 @@
 package journal
 
 import (
+	"bufio"
 	"bytes"
 	"encoding/json"
 	"fmt"
+	"io"
 	"os"
 	"path/filepath"
 	"sort"
 	"time"
 
+	"fdbrec/service/internal/raw"
 	"fdbrec/service/internal/report"
 )
 
@@ -62,6 +65,34 @@ type Record struct {
 	Last    json.RawMessage   `json:"last,omitempty"`
 }
 
+// text appends the record to a text, as a line. Answers are spelled by hand: they are parts of what a node said, and long.
+func (r *Record) text(text []byte) ([]byte, error) {
+	switch {
+	case r.Given != nil:
+		text = append(append(append(text, `{"given":`...), r.Given...), '}')
+	case r.Answer != nil:
+		text = append(text, `{"answer":{"entries":[`...)
+		for at, each := range r.Answer.Entries {
+			if at > 0 {
+				text = append(text, ',')
+			}
+			text = append(text, each...)
+		}
+		text = append(text, ']')
+		if r.Answer.Last != nil {
+			text = append(append(text, `,"last":`...), r.Answer.Last...)
+		}
+		text = append(text, "}}"...)
+	default:
+		its, err := json.Marshal(r)
+		if err != nil {
+			return nil, err
+		}
+		text = append(text, its...)
+	}
+	return append(text, '\n'), nil
+}
+
 // Begins is where the node stood when a file began.
 type Begins struct {
 	Stamp   uint64          `json:"stamp"`
@@ -73,12 +104,6 @@ type Begins struct {
 type Said struct {
 	Entries []json.RawMessage `json:"entries"`
 	Last    json.RawMessage   `json:"last,omitempty"`
-}
-
-// Entry is as much of an entry as a journal looks at.
-type Entry struct {
-	Stamp uint64                     `json:"stamp"`
-	Act   map[string]json.RawMessage `json:"act"`
 }
 
 // Files are the files of a journal's folder, in their order.
@@ -101,6 +126,13 @@ func Open(folder string, options Options) (*Journal, error) {
 	if err != nil {
 		return nil, err
 	}
+	for len(files) > 1 && !isBegun(files[len(files)-1]) {
+		// (an agent was killed while it turned to this file: the one before says where the node stands)
+		if err := os.Remove(files[len(files)-1]); err != nil {
+			return nil, err
+		}
+		files = files[:len(files)-1]
+	}
 	path := filepath.Join(folder, fmt.Sprintf("%06d.jsonl", 1))
 	if len(files) > 0 {
 		path = files[len(files)-1]
@@ -112,6 +144,17 @@ func Open(folder string, options Options) (*Journal, error) {
 		return nil, err
 	}
 	return j, nil
+}
+
+// isBegun says whether a file has its first line.
+func isBegun(path string) bool {
+	file, err := os.Open(path)
+	if err != nil {
+		return true // (reading it says why)
+	}
+	defer func() { _ = file.Close() }()
+	_, err = bufio.NewReader(file).ReadBytes('\n')
+	return err != io.EOF
 }
 
 func (j *Journal) read(path string) error {
@@ -128,7 +171,7 @@ func (j *Journal) read(path string) error {
 	if err != nil {
 		return err
 	}
-	if err := j.file.Truncate(j.size); err != nil {
+	if err := j.file.Truncate(j.size); err != nil || !j.options.Fsync {
 		return err
 	}
 	return syncFolder(j.folder)
@@ -165,22 +208,14 @@ func (t *Tail) take(its *Record) {
 		entries, last = its.Answer.Entries, its.Answer.Last
 	}
 	for _, text := range entries {
-		var entry Entry
-		if json.Unmarshal(text, &entry) == nil {
-			t.Stamp = entry.Stamp
-			_, t.Ended = entry.Act["crashed"]
+		if stamp, is := raw.Number(raw.Member(text, "stamp")); is {
+			kind, _ := raw.Only(raw.Member(text, "act"))
+			t.Stamp, t.Ended = stamp, kind == "crashed"
 		}
 	}
 	if last != nil {
 		t.Last, t.IsThere = last, true
-		var where struct {
-			Storage struct {
-				Version uint64 `json:"version"`
-			} `json:"storage"`
-		}
-		if json.Unmarshal(last, &where) == nil {
-			t.Version = where.Storage.Version
-		}
+		t.Version, _ = raw.Number(raw.Member(raw.Member(last, "storage"), "version"))
 	}
 }
 
@@ -197,11 +232,10 @@ func (j *Journal) Write(records ...Record) error {
 	}
 	var text []byte
 	for _, each := range records {
-		line, err := json.Marshal(each)
-		if err != nil {
+		var err error
+		if text, err = each.text(text); err != nil {
 			return err
 		}
-		text = append(append(text, line...), '\n')
 	}
 	if err := j.append(text); err != nil {
 		return err
@@ -210,7 +244,7 @@ func (j *Journal) Write(records ...Record) error {
 		j.Tail.take(&records[at])
 	}
 	if j.size > j.options.Rotate && len(j.Tail.Open) == 0 {
-		return j.turn()
+		j.turn()
 	}
 	return nil
 }
@@ -231,12 +265,12 @@ func (j *Journal) append(text []byte) error {
 	return nil
 }
 
-// turn begins a new file.
-func (j *Journal) turn() error {
+// turn begins a new file. If that fails the old one goes on: what was written is written once.
+func (j *Journal) turn() {
 	path := filepath.Join(j.folder, fmt.Sprintf("%06d.jsonl", j.number+1))
 	file, err := os.OpenFile(path, os.O_RDWR|os.O_CREATE|os.O_TRUNC, 0o644)
 	if err != nil {
-		return nil // (the old one goes on)
+		return
 	}
 	text, err := json.Marshal(Record{Begins: &Begins{j.Tail.Stamp, j.Tail.Version, j.Tail.Last}})
 	if err == nil {
@@ -245,17 +279,16 @@ func (j *Journal) turn() error {
 	if err == nil {
 		err = file.Sync()
 	}
+	if err == nil {
+		err = syncFolder(j.folder)
+	}
 	if err != nil {
 		_ = file.Close()
 		_ = os.Remove(path)
-		return nil
-	}
-	if err := syncFolder(j.folder); err != nil {
-		return err
+		return
 	}
 	_ = j.file.Close()
 	j.file, j.size, j.number = file, int64(len(text)+1), j.number+1
-	return nil
 }
 
 // Close closes the file.

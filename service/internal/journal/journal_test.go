@@ -109,6 +109,33 @@ func TestTurns(t *testing.T) {
 	}
 }
 
+// Wherever a new file is cut off within its first line, the one before says where the node stands, and goes on.
+func TestTurnCutOff(t *testing.T) {
+	for _, first := range []string{"", `{"begins":{"stamp":7,"ver`} {
+		folder := t.TempDir()
+		j := open(t, folder, 1<<30)
+		if err := j.Write(given(1), answer(7), given(2)); err != nil {
+			t.Fatal(err)
+		}
+		j.Close()
+		if err := os.WriteFile(filepath.Join(folder, "000002.jsonl"), []byte(first), 0o644); err != nil {
+			t.Fatal(err)
+		}
+		j = open(t, folder, 1)
+		if its := j.Tail; its.Stamp != 7 || its.Version != 70 || len(its.Open) != 1 || !its.IsThere {
+			t.Errorf("%q: %+v", first, its)
+		}
+		if err := j.Write(answer(9)); err != nil {
+			t.Fatal(err)
+		}
+		j.Close()
+		files, _ := Files(folder)
+		if its := open(t, folder, 1).Tail; its.Stamp != 9 || len(its.Open) != 0 || len(files) != 2 {
+			t.Errorf("%q: %+v in %v", first, its, files)
+		}
+	}
+}
+
 func TestNoJournal(t *testing.T) {
 	folder := t.TempDir()
 	_ = os.WriteFile(filepath.Join(folder, "000001.jsonl"), []byte("{\"given\":1}\nno line\n"), 0o644)

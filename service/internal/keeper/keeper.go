@@ -85,7 +85,7 @@ func New(c *config.Config, its *config.Keeper, log *report.Log) (*Keeper, error)
 		return nil, err
 	}
 	var err error
-	k.bus, err = bus.Connect(c, fmt.Sprintf("keeper-%d", its.Number), its.Nkey, true, 2*time.Second)
+	k.bus, err = bus.Connect(c, fmt.Sprintf("keeper-%d", its.Number), its.Nkey, log, 2*time.Second)
 	return k, err
 }
 

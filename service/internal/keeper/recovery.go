@@ -7,6 +7,7 @@ import (
 	"sort"
 	"time"
 
+	"fdbrec/service/internal/agent"
 	"fdbrec/service/internal/names"
 	"fdbrec/service/internal/wire"
 )
@@ -196,9 +197,9 @@ func phaseOf(view *wire.NodeView) string {
 func (k *Keeper) openEpoch(its *recovery, where *wire.Recovery) {
 	on := func(at uint64) string { return its.machines[at%uint64(its.sound)] }
 	last, known := where.SeededTo+1, where.First-1
-	k.start(its, on(its.logs), names.Node{Kind: "sequencer", First: its.ballot}, wire.Order{Last: last})
+	k.start(its, on(agent.SequencerAt(its.logs)), names.Node{Kind: "sequencer", First: its.ballot}, wire.Order{Last: last})
 	for at := uint64(0); at < k.config.Proxies; at++ {
-		k.start(its, on(its.logs+1+at), names.Node{Kind: "proxy", First: its.ballot, Second: at}, wire.Order{Known: known})
+		k.start(its, on(agent.ProxyAt(its.logs, at)), names.Node{Kind: "proxy", First: its.ballot, Second: at}, wire.Order{Known: known})
 	}
 }
 

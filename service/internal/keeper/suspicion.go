@@ -162,6 +162,11 @@ func (k *Keeper) letGo(now time.Time) {
 	if now.Sub(k.opened) < 2*k.config.Suspect || k.trying != nil || k.why != "" || !k.isFirst(now) {
 		return
 	}
+	for each, when := range k.dropped {
+		if now.Sub(when) > time.Minute {
+			delete(k.dropped, each)
+		}
+	}
 	for on, each := range k.machines {
 		if now.Sub(each.heard) > k.config.Suspect {
 			continue
@@ -182,7 +187,7 @@ func (k *Keeper) letGo(now time.Time) {
 func (k *Keeper) mayGo(name names.Node, its *wire.NodeView) string {
 	switch name.Kind {
 	case "log":
-		if name.First < k.newest.Epoch && !k.newest.Names(name.First) {
+		if name.First < k.newest.Epoch && !k.newest.State.Names(name.First) {
 			return "drop"
 		}
 	case "sequencer", "proxy":

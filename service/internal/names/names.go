@@ -3,11 +3,11 @@
 package names
 
 import (
-	"bytes"
-	"encoding/json"
 	"fmt"
 	"strconv"
 	"strings"
+
+	"fdbrec/service/internal/raw"
 )
 
 // Node is the name of a node: its kind, and one or two numbers.
@@ -79,35 +79,31 @@ func (n Node) MarshalJSON() ([]byte, error) {
 	if members == nil {
 		return nil, fmt.Errorf("%q is no kind of node", n.Kind)
 	}
-	text := fmt.Sprintf(`{%q:{%q:%d`, n.Kind, members[0], n.First)
+	text := append([]byte(`{"`+n.Kind+`":{"`+members[0]+`":`), strconv.FormatUint(n.First, 10)...)
 	if len(members) == 2 {
-		text += fmt.Sprintf(`,%q:%d`, members[1], n.Second)
+		text = append(append(text, `,"`+members[1]+`":`...), strconv.FormatUint(n.Second, 10)...)
 	}
-	return []byte(text + "}}"), nil
+	return append(text, "}}"...), nil
 }
 
 // UnmarshalJSON reads the name as journals have it: one member, with exactly the numbers of its kind.
 func (n *Node) UnmarshalJSON(text []byte) error {
-	var outer map[string]map[string]uint64
-	reader := json.NewDecoder(bytes.NewReader(text))
-	if err := reader.Decode(&outer); err != nil {
-		return err
-	}
-	for kind, its := range outer {
-		members := Kinds[kind]
-		if len(outer) != 1 || members == nil || len(its) != len(members) {
-			break
-		}
-		numbers := [2]uint64{}
+	kind, its := raw.Only(text)
+	members := Kinds[kind]
+	numbers, seen := [2]uint64{}, [2]bool{}
+	is := members != nil && raw.Members(its, func(name string, value []byte) bool {
 		for at, member := range members {
-			number, has := its[member]
-			if !has || number >= 1<<62 {
-				return fmt.Errorf("%s is no node", text)
+			number, isNumber := raw.Number(value)
+			if name == member && isNumber && number < 1<<62 && !seen[at] {
+				numbers[at], seen[at] = number, true
+				return true
 			}
-			numbers[at] = number
 		}
-		*n = Node{kind, numbers[0], numbers[1]}
-		return nil
+		return false
+	})
+	if !is || !seen[len(members)-1] || !seen[0] {
+		return fmt.Errorf("%s is no node", text)
 	}
-	return fmt.Errorf("%s is no node", text)
+	*n = Node{kind, numbers[0], numbers[1]}
+	return nil
 }

@@ -43,7 +43,7 @@ func TestNoNames(t *testing.T) {
 	}
 	for _, text := range []string{`{}`, `[]`, `{"cell":{}}`, `{"cell":{"index":-1}}`, `{"log":{"epoch":257}}`,
 		`{"log":{"epoch":257,"tag":1}}`, `{"cell":{"index":1},"storage":{"tag":1}}`, `{"cell":{"index":1,"tag":2}}`,
-		`{"cell":{"index":4611686018427387904}}`, `{"cell":{"index":1.5}}`, `null`} {
+		`{"log":{"epoch":1,"epoch":1}}`, `{"log":{"index":1,"index":1}}`, `{"cell":{"index":4611686018427387904}}`, `{"cell":{"index":1.5}}`, `null`} {
 		var found Node
 		if err := json.Unmarshal([]byte(text), &found); err == nil && text != "null" {
 			t.Errorf("%s is taken as %v", text, found)

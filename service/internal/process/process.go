@@ -14,6 +14,9 @@ import (
 	"time"
 )
 
+// Room is how many bytes a pipe takes that nobody reads yet.
+const Room = 1 << 16
+
 // Process is a node's program as it runs. Answers has its lines, and is closed at its end.
 type Process struct {
 	Answers chan []byte

@@ -1,9 +1,10 @@
 package wire
 
 import (
-	"bytes"
 	"encoding/json"
 	"fmt"
+
+	"fdbrec/service/internal/raw"
 )
 
 // The limits of a batch, as docs/FORMATS.md has them.
@@ -25,6 +26,13 @@ func Mutation(name, first, second string) json.RawMessage {
 	return json.RawMessage(fmt.Sprintf(`{%q:{%q:%q,%q:%q}}`, name, its[0], first, its[1], second))
 }
 
+// FirstKey is the key that a mutation begins with, in hex; nothing if it has none.
+func FirstKey(its json.RawMessage) string {
+	name, values := raw.Only(its)
+	key, _ := raw.Text(raw.Member(values, members[name][0]))
+	return key
+}
+
 // JudgeMutations says what is wrong with a list of mutations, or nothing: a node would refuse the whole batch, and with
 // it the mutations of others.
 func JudgeMutations(list []json.RawMessage) error {
@@ -40,31 +48,39 @@ func JudgeMutations(list []json.RawMessage) error {
 }
 
 func judgeMutation(text []byte) error {
-	var its map[string]map[string]string
-	reader := json.NewDecoder(bytes.NewReader(text))
-	if err := reader.Decode(&its); err != nil || len(its) != 1 {
+	name, values := raw.Only(text)
+	wanted, has := members[name]
+	its, seen := [2]string{}, [2]bool{}
+	is := has && raw.Members(values, func(each string, value []byte) (is bool) {
+		at := 0
+		if each != wanted[0] {
+			at = 1
+		}
+		if each != wanted[at] || seen[at] {
+			return false
+		}
+		its[at], is = raw.Text(value)
+		seen[at] = true
+		return is
+	})
+	if !is || !seen[0] || !seen[1] {
 		return fmt.Errorf("it is no mutation")
 	}
-	for name, values := range its {
-		wanted, has := members[name]
-		first, hasFirst := values[wanted[0]]
-		second, hasSecond := values[wanted[1]]
-		if !has || !hasFirst || !hasSecond || len(values) != 2 {
-			return fmt.Errorf("it is no mutation")
-		}
-		most := mostValue
-		if name == "clear" {
-			most = mostKey
-		}
-		if !isHex(first) || !isHex(second) {
-			return fmt.Errorf("its bytes are not in hex, lower case")
-		}
-		if len(first) > 2*mostKey || len(second) > 2*most {
-			return fmt.Errorf("a key has more than %d bytes, or a value more than %d", mostKey, mostValue)
-		}
-		if name == "clear" && first > second {
-			return fmt.Errorf("it clears from a key to one before it")
-		}
+	return judgeValues(name, its[0], its[1])
+}
+
+func judgeValues(name, first, second string) error {
+	most := mostValue
+	if name == "clear" {
+		most = mostKey
+	}
+	switch {
+	case !isHex(first) || !isHex(second):
+		return fmt.Errorf("its bytes are not in hex, lower case")
+	case len(first) > 2*mostKey || len(second) > 2*most:
+		return fmt.Errorf("a key has more than %d bytes, or a value more than %d", mostKey, mostValue)
+	case name == "clear" && first > second:
+		return fmt.Errorf("it clears from a key to one before it")
 	}
 	return nil
 }

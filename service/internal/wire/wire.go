@@ -2,21 +2,82 @@
 package wire
 
 import (
+	"bytes"
 	"encoding/json"
 	"fmt"
+	"strconv"
 
 	"fdbrec/service/internal/names"
+	"fdbrec/service/internal/raw"
 )
 
-// Message is an ask or a tell on its way. At is the greatest stamp that its sender saw, Newest the newest epoch of
-// which the sender knew.
+// Message is an ask or a tell on its way. At is the greatest stamp that its sender saw. Until is of a pop: under no later
+// stamp the log may enter it.
 type Message struct {
-	Type   string          `json:"type"` // "ask" or "hear"
-	At     uint64          `json:"at"`
-	Newest uint64          `json:"newest"`
-	From   names.Node      `json:"from"`
-	Ask    json.RawMessage `json:"ask,omitempty"`
-	Tell   json.RawMessage `json:"tell,omitempty"`
+	Type  string          `json:"type"` // "ask" or "hear"
+	At    uint64          `json:"at"`
+	Until uint64          `json:"until,omitempty"`
+	From  names.Node      `json:"from"`
+	Ask   json.RawMessage `json:"ask,omitempty"`
+	Tell  json.RawMessage `json:"tell,omitempty"`
+}
+
+// Text is the message as it goes over the broker.
+func (m *Message) Text() ([]byte, error) {
+	from, err := m.From.MarshalJSON()
+	if err != nil {
+		return nil, err
+	}
+	text := make([]byte, 0, len(m.Ask)+len(m.Tell)+len(from)+120)
+	text = append(append(text, `{"type":"`...), m.Type...)
+	text = strconv.AppendUint(append(text, `","at":`...), m.At, 10)
+	if m.Until != 0 {
+		text = strconv.AppendUint(append(text, `,"until":`...), m.Until, 10)
+	}
+	text = append(append(text, `,"from":`...), from...)
+	if m.Ask != nil {
+		text = append(append(text, `,"ask":`...), m.Ask...)
+	}
+	if m.Tell != nil {
+		text = append(append(text, `,"tell":`...), m.Tell...)
+	}
+	return append(text, '}'), nil
+}
+
+// Read reads a message. What it has for a node becomes a part of a line: so it is whole JSON, without line breaks.
+func (m *Message) Read(text []byte) error {
+	if !json.Valid(text) {
+		return fmt.Errorf("it is no JSON")
+	}
+	if bytes.IndexByte(text, '\n') >= 0 {
+		var one bytes.Buffer
+		if err := json.Compact(&one, text); err != nil {
+			return err
+		}
+		text = one.Bytes()
+	}
+	var err error
+	is := raw.Members(text, func(name string, value []byte) (is bool) {
+		switch is = true; name {
+		case "type":
+			m.Type, is = raw.Text(value)
+		case "at":
+			m.At, is = raw.Number(value)
+		case "until":
+			m.Until, is = raw.Number(value)
+		case "from":
+			err = m.From.UnmarshalJSON(value)
+		case "ask":
+			m.Ask = value
+		case "tell":
+			m.Tell = value
+		}
+		return is && err == nil
+	})
+	if err == nil && !is {
+		err = fmt.Errorf("it is no message")
+	}
+	return err
 }
 
 // who may ask, or tell, a node of each kind.
@@ -125,9 +186,9 @@ func (e *Epoch) After(epoch uint64) (Generation, bool) {
 	return Generation{}, false
 }
 
-// Names says whether the epoch's state has a generation of this epoch.
-func (e *Epoch) Names(epoch uint64) bool {
-	for _, gen := range e.State.Gens {
+// Names says whether the state has a generation of this epoch.
+func (s *State) Names(epoch uint64) bool {
+	for _, gen := range s.Gens {
 		if gen.Epoch == epoch {
 			return true
 		}
@@ -219,7 +280,8 @@ type Submitted struct {
 	Committed bool   `json:"committed,omitempty"`
 	Ended     bool   `json:"ended,omitempty"`
 	Refused   string `json:"refused,omitempty"`
-	IsBad     bool   `json:"bad,omitempty"` // it is refused anywhere
+	IsBad     bool   `json:"bad,omitempty"`     // it is refused anywhere
+	IsCrowded bool   `json:"crowded,omitempty"` // its batch had no room for all that waited with it
 	Epoch     uint64 `json:"epoch"`
 	Version   uint64 `json:"version"`
 	At        uint64 `json:"at"`

@@ -2,6 +2,7 @@ package wire
 
 import (
 	"encoding/json"
+	"fmt"
 	"testing"
 
 	"fdbrec/service/internal/names"
@@ -49,7 +50,8 @@ func TestMutations(t *testing.T) {
 	bad := []string{``, `null`, `[]`, `{}`, `{"set":{}}`, `{"set":{"key":"6","value":""}}`, `{"set":{"key":"6A","value":""}}`,
 		`{"set":{"key":"61","value":"","more":""}}`, `{"clear":{"begin":"62","end":"61"}}`, `{"add":{"key":"61","value":"01"}}`,
 		`{"set":{"key":"61","value":""},"clear":{"begin":"","end":""}}`, `{"drop":{"key":"61","value":""}}`,
-		`{"set":{"key":1,"value":""}}`}
+		`{"set":{"key":1,"value":""}}`, `{"set":{"key":"61","key":"61"}}`, `{"set":{"value":"61","value":"61"}}`,
+		`{"set":{"key":"\u0061","value":""}}`, `{"set":{"key":"61","value":""}} ` + "x"}
 	for _, text := range bad {
 		if err := JudgeMutations([]json.RawMessage{json.RawMessage(text)}); err == nil {
 			t.Errorf("%s is taken", text)
@@ -64,6 +66,37 @@ func TestMutations(t *testing.T) {
 	}
 	if JudgeMutations(many) == nil || JudgeMutations(many[:1000]) != nil {
 		t.Error("a batch has at most 1,000 mutations")
+	}
+}
+
+// A message is spelled as encoding/json would spell it, and read as it would read it; of strangers it takes no text that
+// would break a line.
+func TestMessages(t *testing.T) {
+	log := names.Node{Kind: "log", First: 257, Second: 1}
+	for _, its := range []Message{
+		{Type: "ask", At: 7, From: names.Node{Kind: "proxy", First: 257}, Ask: json.RawMessage(`{"log":{"push":{"bodies":[[0,[]]]}}}`)},
+		{Type: "ask", At: 1 << 40, Until: 9, From: names.Node{Kind: "storage"}, Ask: json.RawMessage(`{"log":{"pop":{}}}`)},
+		{Type: "hear", From: log, Tell: json.RawMessage(`{"log":{"held":{"durable":3}}}`)},
+	} {
+		text, err := its.Text()
+		wanted, _ := json.Marshal(&its)
+		if err != nil || string(text) != string(wanted) {
+			t.Errorf("%s, wanted %s", text, wanted)
+		}
+		var back Message
+		if err := back.Read(text); err != nil || fmt.Sprint(back) != fmt.Sprint(its) {
+			t.Errorf("%s is read as %v, %v", text, back, err)
+		}
+	}
+	var broken Message
+	spaced := "{\"type\":\"ask\",\"at\":1,\n\"from\":{\"cell\":{\"index\":1}},\"ask\":{\n\"x\" :1}}"
+	if err := broken.Read([]byte(spaced)); err != nil || string(broken.Ask) != `{"x":1}` {
+		t.Errorf("%s %v", broken.Ask, err)
+	}
+	for _, text := range []string{``, `{`, `[]`, `"x"`, `{"type":7}`, `{"at":-1}`, `{"from":{"tree":{}}}`, `{"ask":{"x":[}]}}`, `{"ask":tru}`} {
+		if err := (&Message{}).Read([]byte(text)); err == nil {
+			t.Errorf("%s is read", text)
+		}
 	}
 }
 
@@ -89,7 +122,7 @@ func TestAfter(t *testing.T) {
 			t.Errorf("after %d: %v %v", epoch, next, is)
 		}
 	}
-	if !e.Names(513) || e.Names(257) || e.Last().Epoch != 1025 {
+	if !e.State.Names(513) || e.State.Names(257) || e.Last().Epoch != 1025 {
 		t.Error("the generations of a state")
 	}
 }

@@ -1,0 +1,49 @@
+package agent
+
+import (
+	"fmt"
+	"testing"
+
+	"fdbrec/service/internal/config"
+)
+
+// Each node of the start is on one machine, each log on another one, and the first two proxies beside the sequencer.
+func TestFirstNodes(t *testing.T) {
+	for machines := 3; machines <= 7; machines++ {
+		for proxies := uint64(1); proxies <= 16; proxies += 5 {
+			c := &config.Config{Coordinators: 3, Logs: 3, Degree: 2, Proxies: proxies, Shards: []string{"", "6d"}}
+			for at := 0; at < machines; at++ {
+				c.Machines = append(c.Machines, &config.Machine{Name: fmt.Sprint("m", at)})
+			}
+			for at := uint64(0); at < 3; at++ {
+				c.Machines[at].Cells = []uint64{at}
+			}
+			c.Machines[machines-1].Storages = []uint64{0, 1}
+			on := map[string]string{}
+			for _, machine := range c.Machines {
+				logs := 0
+				for _, order := range FirstNodes(c, machine) {
+					token := order.Node.Token()
+					if on[token] != "" {
+						t.Errorf("%s is on %s and %s", token, on[token], machine.Name)
+					}
+					on[token] = machine.Name
+					if order.Node.Kind == "log" {
+						logs++
+					}
+				}
+				if logs > 1 {
+					t.Errorf("%d logs are on %s", logs, machine.Name)
+				}
+			}
+			if len(on) != 3+2+3+1+int(proxies) {
+				t.Errorf("%d machines, %d proxies: %v", machines, proxies, on)
+			}
+			for at := uint64(0); at < proxies && at < 2; at++ {
+				if its := fmt.Sprint("proxy-257-", at); on[its] != on["sequencer-257"] {
+					t.Errorf("%s is on %s, the sequencer on %s", its, on[its], on["sequencer-257"])
+				}
+			}
+		}
+	}
+}
