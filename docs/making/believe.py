@@ -152,7 +152,7 @@ TRUSTED = """
 - **What the prover says of code**: that a function whose proof passed does what its contract says, for every input and
   every schedule of its threads, once it is compiled; with it the compilers, LLVM's among them.
 - **What the standard library and the crates of the kit ensure**: their contracts are proved in the kit and not here.
-  Those that a program of this repository stands on: {kit}.
+  Those that the programs and fr_c stand on: {kit}.
 - **The C library and the operating system**; that memory which was given is kept; of a disk, that it does what
   `Device` of fr_record says. Of a file of the host (`fr_host`): that what the host answered
   when the file was read, at its open, is what the file holds; that nobody else writes it; and that a crash leaves of it
@@ -193,7 +193,8 @@ def believe(crates, code):
     clauses, rest = beside(closure, code)
     lines += BESIDE_TEXT.split("\n") + clauses
     lines += counted("## What they name beside those above", rest) + listed(closure, rest)
-    used = {it for name in programs(crates) for below in crates.below(name) | {name} for it in crates.kit[below]}
+    built = programs(crates) + crates.static
+    used = {it for name in built for below in crates.below(name) | {name} for it in crates.kit[below]}
     lines += wrap_items(TRUSTED.format(kit=", ".join(sorted(used))))
     for path, names in sorted(closure.std.items()):
         lines.append(wrapped(f"{path}: {', '.join(sorted(names))}", "- ", "  "))

@@ -103,3 +103,24 @@ def minuted(path, took):
         if it[2] not in took.own:
             sys.exit(f"{path}: a comment has the minutes of {it[2]}, which is no crate")
     return MINUTE.sub(lambda it: str(of[it[1]](it[2])), text)
+
+
+# pages that have a module of definitions whole but for its imports, folded to their width: before the block stands a
+# comment `<!-- whole: PATH -->`
+WHOLE = re.compile(r"<!-- whole: (\S+) -->\n\n((?:    .*\n|\n)+)")
+
+
+def unfolded(text):
+    """The words of a module, or of a block that quotes it, without imports and the marks of comments."""
+    lines = [it for it in text.split("\n") if not it.startswith("use ")]
+    return [it for it in " ".join(lines).split() if it != "--"]
+
+
+def whole_faults(path):
+    """What a page has of a module that is not in it, or the other way round, as one fault."""
+    faults = []
+    for it in WHOLE.finditer(read(path)):
+        head, _, module = read(it[1]).partition("\n")
+        if unfolded(it[2]) != unfolded(module) or not head.startswith("-- "):
+            faults.append(f"{path}: what stands below `whole: {it[1]}` is not that module without its imports")
+    return faults

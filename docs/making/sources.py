@@ -44,6 +44,7 @@ class Crates:
         self.kit = {name: [it for it in all_named if it not in named] for name, all_named in named.items()}
         self.named = {name: [it for it in all_named if it in named] for name, all_named in named.items()}
         self.names = list(named)
+        self.static = [it.split(":")[0].split()[0] for it in lines if it.split(":")[0].endswith(" staticlib")]
 
     def below(self, name, seen=None):
         """All crates that this one stands on."""
