@@ -69,7 +69,8 @@ class Cluster:
         self.write(brokers, values or {})
         self.words = {f"broker-{at}": ["nats-server", "-c", f"{room}/broker-{at}.conf"] for at in range(brokers)}
         if is_small:
-            self.disk = Disk(f"{room}/m1", 24)
+            # (what a test writes there has room: it is full only while it is filled)
+            self.disk = Disk(f"{room}/m1", 160)
         for at in range(machines):
             self.run("init", "--machine", f"m{at}")
             self.words[f"m{at}"] = [SERVICE, "agent", "--config", self.config, "--machine", f"m{at}"]

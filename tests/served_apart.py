@@ -53,6 +53,7 @@ def all_of(checks):
         configurations(checks, f"{room}/a")
         no_broker(checks, f"{room}/b")
         running(checks, f"{room}/c")
+        full_for_good(checks, f"{room}/d")
     finally:
         shutil.rmtree(room)
 
@@ -144,6 +145,33 @@ def running(checks, room):
         early(checks, cluster)
         lost_file(checks, cluster)
         erased(checks, cluster)
+        cluster.stop()
+        line, why, _ = cluster.audit()
+        checks.check(line == "audit ok", line, why)
+    finally:
+        cluster.drop()
+
+
+def full_for_good(checks, room):
+    """A machine whose disk stays full has no log of the next epoch: the others are enough, and few recoveries are tried."""
+    cluster = served.Cluster(room, values={"logs": 5}, is_small=True)
+    if not cluster.disk.is_there:
+        print("a disk that stays full is not tried: no file system can be mounted here", flush=True)
+        return
+    try:
+        cluster.start_all()
+        checks.check(cluster.comes(60) is not None, "it begins with five logs:", cluster.last.stderr)
+        cluster.disk.fill()
+        load = cluster.begin("bench", "--seconds", "10", "--clients", "4")
+        checks.check(cluster.comes(60) is not None, "it goes on beside a full disk:", cluster.last.stderr)
+        load.communicate(timeout=120)
+        checks.check(cluster.comes(20) is not None, "it goes on with a full disk:", cluster.last.stderr)
+        newest = cluster.standing()["newest"]
+        begun = [it for at in (1, 2) for it in cluster.said(f"keeper-{at}", '"why":') if '"machines":' in it]
+        checks.check(newest["epoch"] > 257 and newest["state"][-1]["m"] == 4, "the epoch has four logs:", newest)
+        checks.check(len(begun) <= 6, "recoveries that were begun:", begun)
+        cluster.disk.empty()
+        checks.check(cluster.comes(60) is not None, "it goes on with room:", cluster.last.stderr)
         cluster.stop()
         line, why, _ = cluster.audit()
         checks.check(line == "audit ok", line, why)

@@ -41,8 +41,11 @@ type Keeper struct {
 	open     map[string]openBatch
 	trying   *recovery
 	failed   int
-	wasWell  bool      // whether all nodes of an epoch were once well
-	rest     time.Time // no recovery begins before it
+	refused  int                  // so many recoveries one after another were given up because an agent refused a node
+	refusing map[string]time.Time // when a machine last did so
+	letting  int                  // orders under way by which nodes are ended that no state names
+	wasWell  bool                 // whether all nodes of an epoch were once well
+	rest     time.Time            // no recovery begins before it
 	why      string
 	dropped  map[string]time.Time
 }
@@ -80,7 +83,8 @@ func Init(c *config.Config, its *config.Keeper) error {
 func New(c *config.Config, its *config.Keeper, log *report.Log) (*Keeper, error) {
 	now := time.Now()
 	k := &Keeper{config: c, its: its, log: log, born: now, calm: now, machines: map[string]*machine{},
-		keepers: map[uint64]time.Time{}, since: map[string]time.Time{}, open: map[string]openBatch{}, dropped: map[string]time.Time{}}
+		keepers: map[uint64]time.Time{}, since: map[string]time.Time{}, open: map[string]openBatch{}, dropped: map[string]time.Time{},
+		refusing: map[string]time.Time{}}
 	if err := k.enter(); err != nil {
 		return nil, err
 	}
@@ -286,5 +290,5 @@ func (k *Keeper) learn(its *wire.Epoch) {
 		k.log.Info("recovery", "ballot", k.trying.ballot, "chosen", k.trying.ballot == its.Epoch, "after_ms", now.Sub(k.trying.begun).Milliseconds())
 		k.giveUp(now, 0)
 	}
-	k.failed = 0
+	k.failed, k.refused = 0, 0
 }

@@ -21,7 +21,8 @@ func of(room string) *Keeper {
 		Progress: 2 * time.Second, Start: 10 * time.Second, Recovery: 10 * time.Second, Keepers: []*config.Keeper{its},
 		Machines: []*config.Machine{{Name: "m0"}, {Name: "m1"}}}
 	return &Keeper{config: c, its: its, log: report.New("test", 9), machines: map[string]*machine{},
-		keepers: map[uint64]time.Time{}, since: map[string]time.Time{}, open: map[string]openBatch{}, dropped: map[string]time.Time{}}
+		keepers: map[uint64]time.Time{}, since: map[string]time.Time{}, open: map[string]openBatch{}, dropped: map[string]time.Time{},
+		refusing: map[string]time.Time{}}
 }
 
 // A round that was kept is known to the keeper's next run; without its file there is no keeper.
@@ -185,5 +186,95 @@ func TestFirstAndLast(t *testing.T) {
 	}
 	if k.mayGo(names.Node{Kind: "recoverer", First: 1025}, &wire.NodeView{Recovery: &wire.Recovery{IsMarked: true}}) != "end" {
 		t.Error("a recoverer whose marks are held stays")
+	}
+}
+
+// A machine without room is left out of a recovery where the others are enough for a shard's logs, and taken last where
+// they are not.
+func TestPoorMachines(t *testing.T) {
+	now := time.Now()
+	live := func(k *Keeper, degree uint64) ([]string, int) {
+		k.config.Degree = degree
+		return k.choose([]string{"m1", "m0", "m2"}, now)
+	}
+	k := world(now)
+	k.machines["m2"] = &machine{&wire.Alive{Machine: "m2", Nodes: map[string]*wire.NodeView{}}, now}
+	for _, each := range k.machines {
+		each.alive.Free = 1 << 30
+	}
+	if its, sound := live(k, 2); len(its) != 3 || sound != 3 {
+		t.Error("all are sound:", its, sound)
+	}
+	k.machines["m1"].alive.Free = 1 << 20
+	if its, sound := live(k, 2); fmt.Sprint(its) != "[m0 m2]" || sound != 2 {
+		t.Error("m1 has no room:", its, sound)
+	}
+	if its, sound := live(k, 3); fmt.Sprint(its) != "[m0 m2 m1]" || sound != 2 {
+		t.Error("m1 has no room, and is needed:", its, sound)
+	}
+	k.machines["m1"].alive.Free = 1 << 30
+	k.refusing["m0"] = now.Add(-9 * time.Second)
+	if its, _ := live(k, 2); fmt.Sprint(its) != "[m1 m2]" {
+		t.Error("m0 refused a node:", its)
+	}
+	k.refusing["m0"] = now.Add(-11 * time.Second)
+	if its, _ := live(k, 2); len(its) != 3 {
+		t.Error("m0 refused a node long ago:", its)
+	}
+}
+
+// A recovery that an agent refuses is given up, and the next one waits longer each time, until an epoch is chosen.
+func TestRefusals(t *testing.T) {
+	now := time.Now()
+	k := world(now)
+	var pauses []time.Duration
+	for at := 0; at < 9; at++ {
+		k.trying = &recovery{ballot: 515, on: "m0", begun: now, until: now.Add(time.Minute), refused: "m0 refused it"}
+		k.follow(now)
+		if k.trying != nil {
+			t.Fatal("it goes on")
+		}
+		pauses = append(pauses, k.rest.Sub(now)/k.config.Alive)
+	}
+	if fmt.Sprint(pauses) != "[1ns 2ns 4ns 8ns 16ns 32ns 64ns 64ns 64ns]" {
+		t.Error("the pauses are", pauses)
+	}
+	k.learn(&wire.Epoch{Epoch: 1027, State: wire.State{Gens: []wire.Generation{{Epoch: 1027}}}})
+	if k.refused != 0 {
+		t.Error("an epoch that was chosen does not end the waiting")
+	}
+}
+
+// A recoverer that was started, and of which its machine says nothing afterwards, went with its agent; one whose machine
+// is silent is not waited for either.
+func TestForgottenRecoverer(t *testing.T) {
+	now := time.Now()
+	begin := func(k *Keeper) *recovery {
+		k.trying = &recovery{ballot: 515, on: "m1", machines: []string{"m0", "m1"}, logs: 2, begun: now, until: now.Add(time.Minute)}
+		return k.trying
+	}
+	rows := []struct {
+		name          string
+		placed, heard time.Duration // after it began; nothing if it was not placed
+		at            time.Duration
+		goes          bool
+	}{
+		{"not placed yet", 0, 900 * time.Millisecond, 950 * time.Millisecond, true},
+		{"placed, and its machine not heard since", 300 * time.Millisecond, 200 * time.Millisecond, 900 * time.Millisecond, true},
+		{"placed, and its machine heard at once", 300 * time.Millisecond, 450 * time.Millisecond, 900 * time.Millisecond, true},
+		{"placed, and its machine heard later", 300 * time.Millisecond, 510 * time.Millisecond, 900 * time.Millisecond, false},
+		{"its machine is silent", 0, 0, 1001 * time.Millisecond, false},
+	}
+	for _, row := range rows {
+		k := world(now)
+		its := begin(k)
+		if row.placed != 0 {
+			its.placed = now.Add(row.placed)
+		}
+		k.machines["m0"].heard, k.machines["m1"].heard = now.Add(row.at), now.Add(row.heard)
+		k.follow(now.Add(row.at))
+		if (k.trying != nil) != row.goes {
+			t.Errorf("%s: goes on is %v", row.name, !row.goes)
+		}
 	}
 }

@@ -19,7 +19,9 @@ type recovery struct {
 	degree   uint64
 	machines []string // the first ones have the logs; those that are poor come last
 	sound    int      // so many of them are not poor
+	on       string   // the recoverer's machine
 	begun    time.Time
+	placed   time.Time // when that machine said that the recoverer is there
 	until    time.Time
 	isOpened bool   // sequencer and proxies were ordered
 	refused  string // why an agent refused to start one of its nodes
@@ -47,17 +49,16 @@ func (k *Keeper) begin(now time.Time, why string) string {
 		return err.Error()
 	}
 	rand.Shuffle(len(live), func(a, b int) { live[a], live[b] = live[b], live[a] })
-	sort.SliceStable(live, func(a, b int) bool { return !k.isPoor(live[a]) && k.isPoor(live[b]) })
-	its := &recovery{ballot: k.round<<8 + k.its.Number, machines: live, sound: len(live), begun: now}
-	for its.sound > 1 && k.isPoor(live[its.sound-1]) {
-		its.sound--
-	}
+	its := &recovery{ballot: k.round<<8 + k.its.Number, begun: now}
+	its.machines, its.sound = k.choose(live, now)
+	live = its.machines
 	its.logs, its.degree = least(k.config.Logs, uint64(len(live))), k.config.Degree
 	its.until = now.Add(k.config.Recovery << uint(least(uint64(k.failed), 3)))
 	k.trying = its
 	k.log.Warn("recovery", "ballot", its.ballot, "why", why, "machines", len(live), "logs", its.logs, "degree", its.degree)
 	k.bus.Counts.Add("recoveries begun", 1)
-	k.start(its, live[rand.Intn(int(its.logs))], names.Node{Kind: "recoverer", First: its.ballot}, wire.Order{})
+	its.on = live[rand.Intn(int(its.logs))]
+	k.start(its, its.on, names.Node{Kind: "recoverer", First: its.ballot}, wire.Order{})
 	// (they are asked nothing before the recoverer seeds them; that they are there by then saves time)
 	for at := uint64(0); at < its.logs; at++ {
 		k.start(its, live[at], names.Node{Kind: "log", First: its.ballot, Second: at}, wire.Order{})
@@ -88,8 +89,25 @@ func (k *Keeper) tooFew(live []string) string {
 	return ""
 }
 
-// isPoor says whether a machine has little room, or a node there fails: others are taken first.
-func (k *Keeper) isPoor(name string) bool {
+// choose puts the machines that are not poor first, and says how many those are. If they are enough for a shard's logs the
+// others are left out: a log on fewer machines is better than a recovery that waits for a disk that is full.
+func (k *Keeper) choose(live []string, now time.Time) ([]string, int) {
+	sort.SliceStable(live, func(a, b int) bool { return !k.isPoor(live[a], now) && k.isPoor(live[b], now) })
+	sound := len(live)
+	for sound > 1 && k.isPoor(live[sound-1], now) {
+		sound--
+	}
+	if uint64(sound) >= k.config.Degree {
+		live = live[:sound]
+	}
+	return live, sound
+}
+
+// isPoor says whether a machine has little room, or a node there fails, or it refused to start one: others are taken first.
+func (k *Keeper) isPoor(name string, now time.Time) bool {
+	if when, is := k.refusing[name]; is && now.Sub(when) < 10*k.config.Suspect {
+		return true
+	}
 	alive := k.machines[name].alive
 	for _, each := range alive.Nodes {
 		if each.State == "failed" {
@@ -102,16 +120,22 @@ func (k *Keeper) isPoor(name string) bool {
 func (k *Keeper) start(its *recovery, on string, name names.Node, order wire.Order) {
 	order.Do, order.Node, order.Logs, order.Degree = "start", name, its.logs, its.degree
 	go func() {
-		if why := k.order(on, order, its.until); why != "" {
-			k.mutex.Lock()
+		why, is := k.order(on, order, its.until)
+		k.mutex.Lock()
+		defer k.mutex.Unlock()
+		switch {
+		case why != "":
 			its.refused = on + " refused " + name.Spoken() + ": " + why
-			k.mutex.Unlock()
+			k.refusing[on] = time.Now()
+		case is && name.Kind == "recoverer":
+			its.placed = time.Now()
 		}
 	}()
 }
 
-// order orders something of an agent until it is done, or refused, or it is too late. It says why it was refused.
-func (k *Keeper) order(on string, order wire.Order, until time.Time) string {
+// order orders something of an agent until it is done, or refused, or it is too late. It says why it was refused, and
+// whether it was done.
+func (k *Keeper) order(on string, order wire.Order, until time.Time) (why string, is bool) {
 	for time.Now().Before(until) {
 		order.At = k.bus.Clock.Now()
 		ctx, done := context.WithTimeout(context.Background(), 500*time.Millisecond)
@@ -123,12 +147,12 @@ func (k *Keeper) order(on string, order wire.Order, until time.Time) string {
 			if !told.Done {
 				k.log.Warn("an order is refused", "machine", on, "do", order.Do, "node", order.Node.Spoken(), "why", told.Why)
 			}
-			return told.Why
+			return told.Why, told.Done
 		}
 		time.Sleep(50 * time.Millisecond)
 	}
 	k.log.Warn("an order is not answered", "machine", on, "do", order.Do, "node", order.Node.Spoken())
-	return ""
+	return "", false
 }
 
 // follow looks where the recoverer is. The mutex is held.
@@ -142,7 +166,14 @@ func (k *Keeper) follow(now time.Time) {
 		k.failed++
 	case its.refused != "":
 		k.log.Warn("recovery", "ballot", its.ballot, "given_up", its.refused)
+		k.giveUp(now, k.config.Alive<<uint(least(uint64(k.refused), 6)))
+		k.refused++
+	case view == nil && k.hasLost(its, now) != "":
+		k.log.Warn("recovery", "ballot", its.ballot, "given_up", k.hasLost(its, now))
 		k.giveUp(now, k.config.Alive)
+	case view == nil && k.isForgotten(its):
+		k.log.Warn("recovery", "ballot", its.ballot, "given_up", "its recoverer is gone with its agent", "machine", its.on)
+		k.giveUp(now, 0)
 	case view == nil:
 	case view.State == "gone" || view.State == "ended":
 		k.log.Warn("recovery", "ballot", its.ballot, "given_up", "its recoverer is "+view.State, "why", view.Why)
@@ -162,6 +193,13 @@ func (k *Keeper) follow(now time.Time) {
 		its.isOpened = true
 		k.openEpoch(its, view.Recovery)
 	}
+}
+
+// isForgotten says whether the recoverer's machine started it and then does not speak of it: its agent was killed in
+// between, and a recoverer is started once.
+func (k *Keeper) isForgotten(its *recovery) bool {
+	each := k.machines[its.on]
+	return each != nil && !its.placed.IsZero() && each.heard.Sub(its.placed) > 2*k.config.Alive
 }
 
 // hasLost says which log of a recovery cannot be seeded: the recoverer would wait for it in vain.

@@ -9,6 +9,9 @@ import (
 	"fdbrec/service/internal/wire"
 )
 
+// mostLetting is how many nodes are ended at once: each costs its agent some syncs, and orders that matter wait behind.
+const mostLetting = 16
+
 // turn looks at all that is known, and does what is due.
 func (k *Keeper) turn(now time.Time) {
 	if k.bus.Linked() == 0 {
@@ -174,13 +177,21 @@ func (k *Keeper) letGo(now time.Time) {
 		for token, its := range each.alive.Nodes {
 			name, err := names.Parse(token)
 			do := k.mayGo(name, its)
-			if err != nil || do == "" || now.Sub(k.dropped[on+token]) < 2*time.Second {
+			if err != nil || do == "" || k.letting >= mostLetting || now.Sub(k.dropped[on+token]) < 2*time.Second {
 				continue
 			}
 			k.dropped[on+token] = now
-			go k.order(on, wire.Order{Do: do, Node: name}, now.Add(time.Second))
+			k.letting++
+			go k.end(on, wire.Order{Do: do, Node: name}, now.Add(time.Second))
 		}
 	}
+}
+
+func (k *Keeper) end(on string, order wire.Order, until time.Time) {
+	k.order(on, order, until)
+	k.mutex.Lock()
+	defer k.mutex.Unlock()
+	k.letting--
 }
 
 // mayGo says what becomes of a node: logs that no later state can name, and what an ended epoch left of the others.
