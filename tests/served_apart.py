@@ -153,7 +153,7 @@ def running(checks, room):
 
 
 def full_for_good(checks, room):
-    """A machine whose disk stays full has no log of the next epoch if the others are enough. Few recoveries are tried."""
+    """A machine whose disk stays full has no log of the next epoch if others are enough. Few recoveries are tried."""
     cluster = served.Cluster(room, values={"logs": 5}, is_small=True)
     if not cluster.disk.is_there:
         print("a disk that stays full is not tried: no file system can be mounted here", flush=True)
