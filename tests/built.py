@@ -87,6 +87,13 @@ def share(rows, least=1):
     return [rows[at] for at in chosen]
 
 
+def every(rows, step):
+    """The rows that are run where one says nothing without its neighbours: all of them; or over programs that are
+    compiled without proofs each so many-th one, and the last."""
+    rows = list(rows)
+    return rows if "TEST_SHARE" not in os.environ else [*rows[:-1:step], rows[-1]]
+
+
 def there(crate="fdbrec"):
     """The built program of a crate, or None, where a test has something else to look at then."""
     path = os.environ.get(f"BUILT_{crate.upper()}", f"{TOP}/crates/{crate}/out/{crate}")
