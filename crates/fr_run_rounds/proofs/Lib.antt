@@ -1,0 +1,11 @@
+pub mod Along
+pub mod Tallies
+pub mod Reads
+pub mod Votes
+pub mod Behind
+pub mod Found
+pub mod Locks
+pub mod SeedAnswers
+pub mod Seeds
+pub mod Answers
+pub mod Peeks

@@ -1,0 +1,39 @@
+//! Laws of recoveries that end. A round of a recoverer is any turns in which it hears an answer to each ask whose answer
+//! it wanted when they began, from each node that answers. Whatever else may happen in them.
+ghost use Rattle.fr_run_rounds.specs.Ending.{CopyingBringsRecords, LockingIsOneRound, ReadingIsOneRound, SeedingIsOneRound, WritingIsOneRound};
+
+use fr_run::laws::node_laws;
+use fr_run_headline::contents::contents_law;
+use fr_run_headline::laws::let_go_law;
+use fr_run_headline::versions::seeded_law;
+use fr_tags::laws::cover_law;
+
+/// Reading and writing take one round each, if the cells of a majority answer. After it the recoverer has gone on, or is
+/// lost.
+pub fn cells_law()
+    ensures reading { ReadingIsOneRound }
+    ensures writing { WritingIsOneRound }
+{
+    node_laws();
+    cover_law();
+}
+
+/// Locking takes one round, if fewer than k logs of the generation that is ended do not answer.
+pub fn locks_law()
+    ensures { LockingIsOneRound }
+{
+    node_laws();
+    seeded_law();
+}
+
+/// Each round of copying brings 100 records of each tag of which not all is copied, or the rest, if each log that replied
+/// answers. Once all is copied, seeding takes one round, if each log of the new generation answers.
+pub fn copies_law()
+    ensures records { CopyingBringsRecords }
+    ensures seeding { SeedingIsOneRound }
+{
+    node_laws();
+    contents_law();
+    let_go_law();
+    cover_law();
+}
