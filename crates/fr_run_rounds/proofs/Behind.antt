@@ -125,7 +125,7 @@ abbrev pub IsBehind : NodeId → Ask → RecState → Type 0
 IsBehind (node.Log e i) (ask.Log a) r = IsBehindLog r e i a
 IsBehind to a r = Unit {0}
 
-abbrev Behind : RecState → NodeId × Ask → Type 0
+abbrev pub Behind : RecState → NodeId × Ask → Type 0
 Behind r s = IsBehind s.0 s.1 r
 
 filter_within : (f : ℕ → Bool) (xs : List ℕ) (i : ℕ) → Contains (filter f xs) i → Contains xs i
@@ -170,7 +170,7 @@ marks_behind : (r : RecState) (q : Option Plan) (s : NodeId × Ask) → Contains
 marks_behind r None s k = absurd (Contains-none k)
 marks_behind r (Some p) s k = mapped r _ _ (λ i m. tt) s k
 
-behind_in : (ph : Phase) (r : RecState) (s : NodeId × Ask) → Contains (pending_in ph r) s → Behind r s
+pub behind_in : (ph : Phase) (r : RecState) (s : NodeId × Ask) → Contains (pending_in ph r) s → Behind r s
 behind_in Reading r s k = mapped r _ _ (λ i m. tt) s k
 behind_in Locking r s k = locks_behind r r.parent r.end refl s k
 behind_in Copying r s k = go (is_copied r) k

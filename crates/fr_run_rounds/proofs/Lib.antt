@@ -9,3 +9,5 @@ pub mod SeedAnswers
 pub mod Seeds
 pub mod Answers
 pub mod Peeks
+pub mod Bound
+pub mod Coming

@@ -1,9 +1,8 @@
 -- Each round of copying brings 100 records of each tag, or the rest.
 use Rattle.std.proofs.Common.{◌≡◌, ℕ, ◌+◌, ◌<◌, ◌≤◌, Bool, true, false, cond, nat_lt, nat_le, ◌==◌, ◌&&◌, map, filter, min, length, length-append, List, [], ◌∷◌, ◌++◌, Option, None, Some, inl, inr, ◌⊎◌, refl, sym, ◌∙◌, ap, subst, arith}
-use Rattle.std.specs.List.{Contains, All, list_any, range_with_len}
+use Rattle.std.specs.List.{Contains, list_any, range_with_len}
 use Rattle.std.proofs.lemmas.Bool.{and_parts, cases_lt, eq-eqb, eqb-true, eqb-false, ne_eqb, lt-ltb, ltb-true, ltb-false, true≢false}
 use Rattle.std.proofs.lemmas.List.{get_or-set_same, get_or-set_other}
-use Rattle.std.proofs.lemmas.List.Elements.{All-contains}
 use Rattle.std.proofs.lemmas.List.Folds.{list_all_at}
 use Rattle.fr_base.specs.declared.place.NodeId.{NodeId}
 use Rattle.fr_base.specs.declared.place.NodeId.TheVariants as node
@@ -68,6 +67,7 @@ record Still (tag v n : ℕ) (q : Plan) : Type 0 where
 -- what one answer makes of a tag: nothing, all of it, or 100 records more
 record Steps (tag : ℕ) (q x : Plan) : Type 0 where
   rv : x.tail.rv ≡ q.tail.rv
+  grows : length (part_at q.tail tag).records ≤ length (part_at x.tail tag).records
   step : (part_at x.tail tag ≡ part_at q.tail tag)
       ⊎ ((part_at q.tail tag).reached < q.tail.rv) × (((part_at x.tail tag).reached ≡ x.tail.rv) ⊎ (length (part_at q.tail tag).records + 100 ≤ length (part_at x.tail tag).records))
 
@@ -96,11 +96,18 @@ peek_steps : (q : Plan) (i : ℕ) (peeked : PeekedContent) → (goes_on q.tail i
 peek_steps q i peeked whole tag = go (goes_on q.tail i peeked) refl
   where
     other : (x : Plan) → x.tail ≡ q.tail → Steps tag q x
-    other x same = record { rv = ap (λ (s : TailState). s.rv) same; step = inl (ap (λ (s : TailState). part_at s tag) same) }
+    other x same = record {
+      rv = ap (λ (s : TailState). s.rv) same;
+      grows = (let size = ap (λ (s : TailState). length (part_at s tag).records) same in omega (arith, size));
+      step = inl (ap (λ (s : TailState). part_at s tag) same);
+    }
 
     further : goes_on q.tail i peeked ≡ true → (b : Bool) → (tag == peeked.tag) ≡ b → Steps tag q (record q { tail = with_part q.tail peeked.tag (longer q.tail.rv (part_at q.tail peeked.tag) peeked) })
-    further e false f = record { rv = refl; step = inl (get_or-set_other q.tail.parts peeked.tag tag (longer q.tail.rv (part_at q.tail peeked.tag) peeked) (new_part q.tail.pev) (eqb-false tag peeked.tag f)) }
-    further e true f = record { rv = refl; step = inr (short, elim (whole e) [ inl far ↦ inl (all far) | inr many ↦ inr (more many) ]) }
+    further e false f = record { rv = refl; grows = (let size = ap (λ (x : TagPart). length x.records) left in omega (arith, size)); step = inl left }
+      where
+        left : part_at (with_part q.tail peeked.tag (longer q.tail.rv (part_at q.tail peeked.tag) peeked)) tag ≡ part_at q.tail tag
+        left = get_or-set_other q.tail.parts peeked.tag tag (longer q.tail.rv (part_at q.tail peeked.tag) peeked) (new_part q.tail.pev) (eqb-false tag peeked.tag f)
+    further e true f = record { rv = refl; grows = rises; step = inr (short, elim (whole e) [ inl far ↦ inl (all far) | inr many ↦ inr (more many) ]) }
       where
         g : Goes q.tail i peeked
         g = goes q.tail i peeked e
@@ -121,6 +128,13 @@ peek_steps q i peeked whole tag = go (goes_on q.tail i peeked) refl
 
         all : q.tail.rv ≤ peeked.upto → (part_at (with_part q.tail peeked.tag (longer q.tail.rv (part_at q.tail peeked.tag) peeked)) tag).reached ≡ q.tail.rv
         all far = ap (λ (x : TagPart). x.reached) is ∙ (let m : min peeked.upto q.tail.rv ≡ q.tail.rv = omega (arith, far) in m)
+
+        rises : length (part_at q.tail tag).records ≤ length (part_at (with_part q.tail peeked.tag (longer q.tail.rv (part_at q.tail peeked.tag) peeked)) tag).records
+        rises =
+            let size = ap (λ (x : TagPart). length x.records) is in
+            let both = length-append (part_at q.tail peeked.tag).records (filter (λ x. nat_le x.version q.tail.rv) peeked.records) in
+            let own = ap (λ (x : TagPart). length x.records) before in
+            omega (arith, size, both, own)
 
         more : 100 ≤ length (filter (λ x. nat_le x.version q.tail.rv) peeked.records)
             → length (part_at q.tail tag).records + 100 ≤ length (part_at (with_part q.tail peeked.tag (longer q.tail.rv (part_at q.tail peeked.tag) peeked)) tag).records
@@ -175,7 +189,7 @@ record StepsTo (tag : ℕ) (q : Plan) (n : RecState) : Type 0 where
   steps : Steps tag q plan
 
 stands : (tag : ℕ) (q : Plan) (n : RecState) → n.plan ≡ Some q → StepsTo tag q n
-stands tag q n at = record { plan = q; is = at; steps = record { rv = refl; step = inl refl } }
+stands tag q n at = record { plan = q; is = at; steps = record { rv = refl; grows = omega arith; step = inl refl } }
 
 steps_change : (c : Config) → PeekRules c → (h : List Turn) → IsRun c h → (b : ℕ) (r : RecState) → rec_at c h b ≡ Some r → (from : NodeId) (u : Tell) → Told h from (node.Recoverer b) u → (q : Plan) → r.plan ≡ Some q → (tag : ℕ) → tag < length c.begins
     → (n : RecState) → Change r (word_of from u) n → StepsTo tag q n
@@ -241,6 +255,17 @@ pub brought_keeps : (c : Config) → PeekRules c → (b tag n : ℕ) → tag < l
 brought_keeps c rules b tag n inside h run r from u at told k =
     let to = steps_change c rules h run b r at from u told k.plan k.is tag inside (after_hear r from u) (rules.laws.rec_change r from u) in
     record { plan = to.plan; is = to.is; brought = brought_on tag n k.plan to.plan to.steps k.brought }
+
+-- a recoverer has a plan of which so many records of a tag are copied
+pub record HasMany (tag n : ℕ) (r : RecState) : Type 0 where
+  pub plan : Plan
+  pub is : r.plan ≡ Some plan
+  pub many : n ≤ length (part_at plan.tail tag).records
+
+pub many_keeps : (c : Config) → PeekRules c → (b tag n : ℕ) → tag < length c.begins → Keeps c b (HasMany tag n)
+many_keeps c rules b tag n inside h run r from u at told k =
+    let to = steps_change c rules h run b r at from u told k.plan k.is tag inside (after_hear r from u) (rules.laws.rec_change r from u) in
+    record { plan = to.plan; is = to.is; many = (let grows = to.steps.grows in let many = k.many in omega (arith, grows, many)) }
 
 -- it copies, and a tag of its plan stands still
 record IsStill (p : Parent) (q : Plan) (tag v n : ℕ) (r : RecState) : Type 0 where
@@ -435,7 +460,7 @@ holder c rules h later run run_later b answers r n p q x at parent plan there pa
   log = met.0;
   replied = subst (λ xs. Contains xs met.0) (sym own.responders_are) met.2;
   holds = ap (λ m. is_held tag m q.tail.k met.0) own.m ∙ ap (λ k. is_held tag p.last.m k met.0) own.k ∙ met.3;
-  answers_it = subst (λ i. answers (node.Log p.last.epoch i) ≡ true) from.2 (All-contains (λ (y : Reply). answers (node.Log p.last.epoch y.log) ≡ true) (tally n).replies from.0 (replied p parent_then) from.1);
+  answers_it = subst (λ i. answers (node.Log p.last.epoch i) ≡ true) from.2 (replied p parent_then from.0 from.1);
 }
   where
     own : IsOfReplies r p q

@@ -1,5 +1,5 @@
 -- A recoverer of which enough nodes answer comes to an end within a number of rounds.
-use Rattle.std.specs.Prelude.{◌≡◌, ◌<◌, ◌≤◌, ◌⊎◌, ℕ, ◌+◌, ◌*◌, Bool, true, List, ◌∷◌, ◌++◌, length, Option, Some, IsSome, All}
+use Rattle.std.specs.Prelude.{◌≡◌, ◌<◌, ◌≤◌, ◌⊎◌, ℕ, ◌+◌, ◌*◌, Bool, true, List, ◌∷◌, ◌++◌, length, Option, Some, IsSome, All, Contains}
 use Rattle.fr_base.specs.Shape.{ShapeContent}
 use Rattle.fr_base.specs.declared.place.NodeId.{NodeId}
 use Rattle.fr_base.specs.declared.place.NodeId.TheVariants as node
@@ -38,7 +38,7 @@ FewAreSilent answers r = (p : Parent) → r.parent ≡ Some p → length (silent
 
 -- each log that replied to its lock answers
 abbrev pub RepliedAnswer : (NodeId → Bool) → RecState → Type 0
-RepliedAnswer answers r = (p : Parent) → r.parent ≡ Some p → All (λ (x : Reply). answers (node.Log p.last.epoch x.log) ≡ true) (tally r).replies
+RepliedAnswer answers r = (p : Parent) → r.parent ≡ Some p → (x : Reply) → Contains (tally r).replies x → answers (node.Log p.last.epoch x.log) ≡ true
 
 -- each log of its own generation answers
 abbrev pub NewAnswer : (NodeId → Bool) → RecState → Type 0

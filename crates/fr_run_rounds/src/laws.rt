@@ -1,12 +1,24 @@
 //! Laws of recoveries that end. A round of a recoverer is any turns in which it hears an answer to each ask whose answer
 //! it wanted when they began, from each node that answers. Whatever else may happen in them.
 ghost use Rattle.fr_run_rounds.specs.Ending.{CopyingBringsRecords, LockingIsOneRound, ReadingIsOneRound, SeedingIsOneRound, WritingIsOneRound};
+ghost use Rattle.fr_run_rounds.specs.Ending.{EndsInRounds, UncontestedIsChosen};
+ghost use Rattle.fr_run_rounds.specs.Rounds.{RoundCanCome};
 
 use fr_run::laws::node_laws;
 use fr_run_headline::contents::contents_law;
 use fr_run_headline::laws::let_go_law;
 use fr_run_headline::versions::seeded_law;
+use fr_run_outcomes::progress::{pending_law, uncontested_law};
 use fr_tags::laws::cover_law;
+
+/// A round can come, from every moment of every run, if the recoverer is up, and each node that answers and whose answer
+/// it wants.
+pub fn round_law()
+    ensures { RoundCanCome }
+{
+    node_laws();
+    pending_law();
+}
 
 /// Reading and writing take one round each, if the cells of a majority answer. After it the recoverer has gone on, or is
 /// lost.
@@ -36,4 +48,22 @@ pub fn copies_law()
     contents_law();
     let_go_law();
     cover_law();
+}
+
+/// A recoverer comes to an end within 4 + n rounds, if it copies fewer than 100 n records of each tag, and enough nodes
+/// answer: the cells of a majority; of the generation that it ends all logs but fewer than k, and each that replied to its
+/// lock; and each log of its own generation. It is then chosen, or lost. If no cell promised more than its ballot when that
+/// began, and none was asked for a greater one since, it is chosen, or has found that there is no room.
+pub fn bound_law()
+    ensures ended { EndsInRounds }
+    ensures chosen { UncontestedIsChosen }
+{
+    node_laws();
+    contents_law();
+    let_go_law();
+    cover_law();
+    cells_law();
+    locks_law();
+    copies_law();
+    uncontested_law();
 }
