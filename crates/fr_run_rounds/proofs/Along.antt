@@ -13,7 +13,7 @@ use Rattle.fr_epoch.specs.Asks.{phase_number}
 use Rattle.fr_epoch.specs.Change.{Change, Stands, LosesReads, Reads, Finds, Locks, LosesLocks, Plans, Copies, Seeds, SeedsAll, Writes, LosesWrites, Chooses, Marks}
 use Rattle.fr_epoch.specs.Law.{IsRecoverer}
 use Rattle.fr_run.specs.Config.{Config}
-use Rattle.fr_run.specs.Turn.{Turn, RecHeard, Told}
+use Rattle.fr_run.specs.Turn.{Turn, Sending, RecHeard, Told}
 use Rattle.fr_run.specs.Nodes.{rec_at}
 use Rattle.fr_run.specs.Run.{IsRun}
 use Rattle.fr_run.specs.Laws.{Laws}
@@ -63,7 +63,7 @@ pub run_back : (c : Config) (more h : List Turn) → IsRun c (more ++ h) → IsR
 run_back c [] h run = run
 run_back c (t ∷ more) h run = run_back c more h run.1
 
-hear_is : (c : Config) (b : ℕ) (h : List Turn) (m : RecState) (to : NodeId) (u : Tell) (asks : _) → rec_at c h b ≡ Some m → rec_at c (RecHeard b to u asks ∷ h) b ≡ Some (after_hear m to u)
+hear_is : (c : Config) (b : ℕ) (h : List Turn) (m : RecState) (to : NodeId) (u : Tell) (asks : List Sending) → rec_at c h b ≡ Some m → rec_at c (RecHeard b to u asks ∷ h) b ≡ Some (after_hear m to u)
 hear_is c b h m to u asks at =
     ap (λ x. cond x (option_map (λ s. after_hear s to u) (rec_at c h b)) (rec_at c h b)) (eq-eqb b b refl)
     ∙ ap (λ o. option_map (λ s. after_hear s to u) o) at

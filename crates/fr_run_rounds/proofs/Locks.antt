@@ -150,9 +150,12 @@ locking_is_one_round rules c h turns config run b answers round r n at phase the
 
     -- a log that answers tells that it is locked
     told : (mid : List Turn) → IsRun c mid → (i : ℕ) (u : Tell) → WasAnswered c mid b (node.Log p.0.last.epoch i) (ask.Log (Lock p.0.last.epoch)) u → (d : ℕ) × (f : ℕ) × (ps : List PoppedTag) × (u ≡ tell.Log (Locked d f ps))
-    told mid run_mid i u answered =
-        (durable_of (log_at c answer.past p.0.last.epoch i), known_of (log_at c answer.past p.0.last.epoch i), (log_at c answer.past p.0.last.epoch i).popped,
-        answer.is ∙ ap tell.Log (locks (log_at c answer.past p.0.last.epoch i) p.0.last.epoch (log_named rules.laws c answer.past answer.run p.0.last.epoch i inside).epoch seeded))
+    told mid run_mid i u answered = (
+      durable_of (log_at c answer.past p.0.last.epoch i),
+      known_of (log_at c answer.past p.0.last.epoch i),
+      (log_at c answer.past p.0.last.epoch i).popped,
+      answer.is ∙ ap tell.Log (locks (log_at c answer.past p.0.last.epoch i) p.0.last.epoch (log_named rules.laws c answer.past answer.run p.0.last.epoch i inside).epoch seeded),
+    )
       where
         answer : LogAnswer c mid b p.0.last.epoch i (Lock p.0.last.epoch) u
         answer = log_answer c mid run_mid b p.0.last.epoch i (Lock p.0.last.epoch) u answered
