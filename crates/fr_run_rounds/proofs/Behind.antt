@@ -244,6 +244,7 @@ sent_behind laws c (t ∷ h) run b e i a (inl (who, has)) = now t run.0 who has
   where
     now : (t : Turn) → IsTurn c h t → actor_of t ≡ node.Recoverer b → Contains (asks_of t) (node.Log e i, ask.Log a) → HoldsOf (rec_at c (t ∷ h) b) (λ r. IsBehindLog r e i a)
     now (Begun x shape asks) is at m =
+        let d : node.Recoverer x ≡ node.Recoverer b = at in
         let own : x ≡ b = cc in
         record {
           recoverer = new_recoverer x c.cells c.begins shape;
@@ -256,6 +257,7 @@ sent_behind laws c (t ∷ h) run b e i a (inl (who, has)) = now t run.0 who has
     now (Submitted x p step batch asks) is at m = (let d : node.Proxy x p ≡ node.Recoverer b = at in absurd (cc))
     now (ProxyHeard x p from u outcome asks) is at m = (let d : node.Proxy x p ≡ node.Recoverer b = at in absurd (cc))
     now (RecHeard x from u asks) is at m =
+        let d : node.Recoverer x ≡ node.Recoverer b = at in
         let own : x ≡ b = cc in
         record {
           recoverer = after_hear is.1.0 from u;

@@ -182,7 +182,7 @@ one_lock rules c config answers b h turns r n o low = go (nat_lt (phase_number r
 
 -- it copies, and so many records of each tag are copied, or all; or it has copied and seeded
 abbrev Carries : Config → ℕ → RecState → Type 0
-Carries c records r = (r.phase ≡ Copying) × HasCopied c r records ⊎ IsFrom 3 r
+Carries c records r = ((r.phase ≡ Copying) × HasCopied c r records) ⊎ IsFrom 3 r
 
 copying_or : (r : RecState) → IsFrom 2 r → (r.phase ≡ Copying) ⊎ IsFrom 3 r
 copying_or r low = go (nat_lt (phase_number r.phase) 3) refl
@@ -201,7 +201,7 @@ one_copy rules c config answers b h turns r n o records (inl (phase, copied)) =
 
 -- all is copied, or seeded too
 abbrev HasAll : RecState → Type 0
-HasAll r = (r.phase ≡ Copying) × (is_copied r ≡ true) ⊎ IsFrom 3 r
+HasAll r = ((r.phase ≡ Copying) × (is_copied r ≡ true)) ⊎ IsFrom 3 r
 
 one_seed : RoundRules → (c : Config) → IsConfig c → (answers : NodeId → Bool) (b : ℕ) (h turns : List Turn) (r n : RecState) → OneRound c answers b h turns r n → HasAll r → IsFrom 3 n
 one_seed rules c config answers b h turns r n o (inr up) = later_from rules.laws c answers b h turns r n o 3 up
@@ -353,7 +353,7 @@ ends_in_rounds rules c h rounds config run b answers are begun r at enough peeks
 
 begun_there : Laws → (c : Config) (h more : List Turn) (b : ℕ) (shape : Option ShapeContent) (asks : List Sending) → IsRun c (more ++ Begun b shape asks ∷ h) → is_some (rec_at c (more ++ Begun b shape asks ∷ h) b) ≡ true
 begun_there laws c h more b shape asks run =
-    let k = along c b (IsFrom 0) (from_keeps laws c b 0) more (Begun b shape asks ∷ h) run _ (first c h b shape asks) (omega arith) in
+    let k = along c b (IsFrom 0) (from_keeps laws c b 0) more (Begun b shape asks ∷ h) run (new_recoverer b c.cells c.begins shape) (first c h b shape asks) (omega arith) in
     ap is_some k.is
   where
     first : (c : Config) (h : List Turn) (b : ℕ) (shape : Option ShapeContent) (asks : List Sending) → rec_at c (Begun b shape asks ∷ h) b ≡ Some (new_recoverer b c.cells c.begins shape)

@@ -64,12 +64,15 @@ record Still (tag v n : ℕ) (q : Plan) : Type 0 where
   reached : (part_at q.tail tag).reached ≡ v
   records : n ≤ length (part_at q.tail tag).records
 
--- what one answer makes of a tag: nothing, all of it, or 100 records more
+-- one answer brings all of a tag, or 100 records more
+abbrev Further : ℕ → Plan → Plan → Type 0
+Further tag q x = ((part_at q.tail tag).reached < q.tail.rv) × (((part_at x.tail tag).reached ≡ x.tail.rv) ⊎ (length (part_at q.tail tag).records + 100 ≤ length (part_at x.tail tag).records))
+
+-- what it makes of a tag: nothing, or that
 record Steps (tag : ℕ) (q x : Plan) : Type 0 where
   rv : x.tail.rv ≡ q.tail.rv
   grows : length (part_at q.tail tag).records ≤ length (part_at x.tail tag).records
-  step : (part_at x.tail tag ≡ part_at q.tail tag)
-      ⊎ ((part_at q.tail tag).reached < q.tail.rv) × (((part_at x.tail tag).reached ≡ x.tail.rv) ⊎ (length (part_at q.tail tag).records + 100 ≤ length (part_at x.tail tag).records))
+  step : (part_at x.tail tag ≡ part_at q.tail tag) ⊎ Further tag q x
 
 -- an answer that goes on
 record Goes (s : TailState) (i : ℕ) (peeked : PeekedContent) : Type 0 where
@@ -146,13 +149,13 @@ peek_steps q i peeked whole tag = go (goes_on q.tail i peeked) refl
 
     go : (b : Bool) → goes_on q.tail i peeked ≡ b → Steps tag q (record q { tail = after_peeked q.tail i peeked.tag peeked })
     go false e = other (record q { tail = after_peeked q.tail i peeked.tag peeked }) (stays q.tail i peeked e)
-    go true e = subst (λ s. Steps tag q (record q { tail = s })) (sym (moves q.tail i peeked e)) (further e (tag == peeked.tag) refl)
+    go true e = subst (λ (s : TailState). Steps tag q (record q { tail = s })) (sym (moves q.tail i peeked e)) (further e (tag == peeked.tag) refl)
 
 -- what was brought stays so
 brought_on : (tag n : ℕ) (q x : Plan) → Steps tag q x → Brought tag n q → Brought tag n x
 brought_on tag n q x k before = go k.step before
   where
-    go : (part_at x.tail tag ≡ part_at q.tail tag) ⊎ ((part_at q.tail tag).reached < q.tail.rv) × (((part_at x.tail tag).reached ≡ x.tail.rv) ⊎ (length (part_at q.tail tag).records + 100 ≤ length (part_at x.tail tag).records)) → Brought tag n q → Brought tag n x
+    go : (part_at x.tail tag ≡ part_at q.tail tag) ⊎ Further tag q x → Brought tag n q → Brought tag n x
     go (inl same) (inl full) = inl (ap (λ (p : TagPart). p.reached) same ∙ full ∙ sym k.rv)
     go (inl same) (inr many) = inr (let size = ap (λ (p : TagPart). length p.records) same in omega (arith, size, many))
     go (inr (short, all)) (inl full) = absurd (omega (arith, short, full))
@@ -166,7 +169,7 @@ still_on tag v n q x k before = go k.step
     records : n ≤ length (part_at q.tail tag).records
     records = before.records
 
-    go : (part_at x.tail tag ≡ part_at q.tail tag) ⊎ ((part_at q.tail tag).reached < q.tail.rv) × (((part_at x.tail tag).reached ≡ x.tail.rv) ⊎ (length (part_at q.tail tag).records + 100 ≤ length (part_at x.tail tag).records)) → Still tag v n x ⊎ Brought tag (n + 100) x
+    go : (part_at x.tail tag ≡ part_at q.tail tag) ⊎ Further tag q x → Still tag v n x ⊎ Brought tag (n + 100) x
     go (inl same) = inl (record { reached = ap (λ (p : TagPart). p.reached) same ∙ before.reached; records = (let size = ap (λ (p : TagPart). length p.records) same in omega (arith, size, records)) })
     go (inr (short, inl all)) = inr (inl all)
     go (inr (short, inr more)) = inr (inr (omega (arith, more, records)))
@@ -438,8 +441,7 @@ hears c rules b p q tag v n inside i has held low less mid m u run here told ans
         records : n ≤ length (part_at x.tail tag).records
         records = k.still.records
 
-        go : (part_at (after_peeked x.tail i tag (peek_of (log_at c answer.past p.last.epoch i) tag v 100)) tag ≡ part_at x.tail tag)
-            ⊎ ((part_at x.tail tag).reached < x.tail.rv) × (((part_at (after_peeked x.tail i tag (peek_of (log_at c answer.past p.last.epoch i) tag v 100)) tag).reached ≡ (after_peeked x.tail i tag (peek_of (log_at c answer.past p.last.epoch i) tag v 100)).rv) ⊎ (length (part_at x.tail tag).records + 100 ≤ length (part_at (after_peeked x.tail i tag (peek_of (log_at c answer.past p.last.epoch i) tag v 100)) tag).records))
+        go : (part_at (after_peeked x.tail i tag (peek_of (log_at c answer.past p.last.epoch i) tag v 100)) tag ≡ part_at x.tail tag) ⊎ Further tag x (record x { tail = after_peeked x.tail i tag (peek_of (log_at c answer.past p.last.epoch i) tag v 100) })
             → Brought tag (n + 100) (record x { tail = after_peeked x.tail i tag (peek_of (log_at c answer.past p.last.epoch i) tag v 100) })
         go (inl same) = absurd (moved same)
         go (inr (s, inl all)) = inl all

@@ -136,7 +136,7 @@ hears r i u phase heard =
 
 -- ---- answers of cells
 
-pub cell_answer : (c : Config) (h : List Turn) (b i : ℕ) (a : CellAsk) (u : Tell) → WasAnswered c h b (node.Cell i) (ask.Cell a) u → (past : List Turn) × (u ≡ tell.Cell (register.answer_of (cell_at c past i) a))
+pub cell_answer : (c : Config) (h : List Turn) (b i : ℕ) (a : CellAsk) (u : Tell) → WasAnswered c h b (node.Cell i) (ask.Cell a) u → (l : List Turn) × (u ≡ tell.Cell (register.answer_of (cell_at c l i) a))
 cell_answer c [] b i a u k = absurd k
 cell_answer c (t ∷ h) b i a u (inl k) = (h, k.1)
 cell_answer c (t ∷ h) b i a u (inr k) = cell_answer c h b i a u k
@@ -167,7 +167,7 @@ reading_is_one_round laws counts c h turns config run b answers round told r n a
     brings : (i : ℕ) → i < c.cells → (mid : List Turn) (m : RecState) (u : Tell) → IsRun c mid → rec_at c mid b ≡ Some m → WasAnswered c mid b (node.Cell i) (ask.Cell (Read r.ballot)) u → ReadDone i (after_hear m (node.Cell i) u)
     brings i below mid m u run_mid here answered = go (nat_lt (phase_number m.phase) 1) refl
       where
-        past : (past : List Turn) × (u ≡ tell.Cell (register.answer_of (cell_at c past i) (Read r.ballot)))
+        past : (l : List Turn) × (u ≡ tell.Cell (register.answer_of (cell_at c l i) (Read r.ballot)))
         past = cell_answer c mid b i (Read r.ballot) u answered
 
         go : (x : Bool) → nat_lt (phase_number m.phase) 1 ≡ x → ReadDone i (after_hear m (node.Cell i) u)

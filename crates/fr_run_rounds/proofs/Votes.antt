@@ -109,7 +109,7 @@ writing_is_one_round laws counts c h turns config run b answers round told r n a
     brings : (i : ℕ) → i < c.cells → (mid : List Turn) (m : RecState) (u : Tell) → IsRun c mid → rec_at c mid b ≡ Some m → IsFrom 3 m → WasAnswered c mid b (node.Cell i) (ask.Cell (Write r.ballot (spelling plan.0.state))) u → VoteDone i (after_hear m (node.Cell i) u)
     brings i below mid m u run_mid here low answered = go (nat_lt (phase_number m.phase) 4) refl
       where
-        past : (past : List Turn) × (u ≡ tell.Cell (register.answer_of (cell_at c past i) (Write r.ballot (spelling plan.0.state))))
+        past : (l : List Turn) × (u ≡ tell.Cell (register.answer_of (cell_at c l i) (Write r.ballot (spelling plan.0.state))))
         past = cell_answer c mid b i (Write r.ballot (spelling plan.0.state)) u answered
 
         go : (x : Bool) → nat_lt (phase_number m.phase) 4 ≡ x → VoteDone i (after_hear m (node.Cell i) u)
