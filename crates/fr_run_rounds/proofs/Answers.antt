@@ -39,38 +39,6 @@ use Rattle.fr_run_outcomes.proofs.Copying.{peeks}
 use Rattle.fr_run_rounds.proofs.Along.{HoldsOf, holds_at, Keeps, along}
 use Rattle.fr_run_rounds.proofs.Behind.{HasPlanOf, plan_now, plan_keeps, IsPeekOf, IsBehindLog, sent_behind}
 
--- ---- an answer comes
-
-never_removed : (l : LogState) (e tag after most : ℕ) → (x : Bool) → answer_of l (Peek e tag after most) ≡ cond x (Refused (Removed (popped_at l.popped tag))) (Peeked (peek_of l tag after most)) → ((v : ℕ) → answer_of l (Peek e tag after most) ≡ Refused (Removed v) → ⊥)
-    → answer_of l (Peek e tag after most) ≡ Peeked (peek_of l tag after most)
-never_removed l e tag after most true is never = absurd (never (popped_at l.popped tag) is)
-never_removed l e tag after most false is never = is
-
--- a log that replied answers a peek of a tag that it holds, above what is copied of any tag at first
-pub peek_answered : Laws → CopyIsNeverRemoved → (c : Config) (h : List Turn) → IsConfig c → IsRun c h → (b : ℕ) (r : RecState) (p : Parent) (q : Plan) → rec_at c h b ≡ Some r → r.parent ≡ Some p → r.plan ≡ Some q
-    → (i : ℕ) → Contains q.tail.responders i → (tag : ℕ) → is_held tag q.tail.m q.tail.k i ≡ true → (after : ℕ) → q.tail.pev ≤ after
-    → answer_of (log_at c h p.last.epoch i) (Peek p.last.epoch tag after 100) ≡ Peeked (peek_of (log_at c h p.last.epoch i) tag after 100)
-peek_answered laws never c h config run b r p q at parent plan i has tag held after low =
-    never_removed (log_at c h p.last.epoch i) p.last.epoch tag after 100 (nat_lt after (popped_at (log_at c h p.last.epoch i).popped tag))
-    (peeks (log_at c h p.last.epoch i) p.last.epoch tag after 100 (log_named laws c h run p.last.epoch i source.there).epoch source.seeded holding (let starts = source.starts in omega (arith, starts, low))
-    (nat_lt after (popped_at (log_at c h p.last.epoch i).popped tag)) refl)
-    (λ v. subst (λ j. answer_of (log_at c h p.last.epoch j) (Peek p.last.epoch tag after 100) ≡ Refused (Removed v) → ⊥) source.own
-    (never c h config run b r p q at parent plan source.reply source.among tag after 100 v low))
-  where
-    source : IsSource c h r p q i
-    source = is_source laws c h config run b r p q at parent plan i has
-
-    holding : holds (log_at c h p.last.epoch i) tag ≡ true
-    holding =
-        let name = log_named laws c h run p.last.epoch i source.there in
-        let two : Some name.generation ≡ Some p.last = sym name.of ∙ (parent_is laws c h config run b r p at parent).generation in
-        let mine : name.generation ≡ p.last = cc in
-        let shape = of_replies laws c h run b r p q at parent plan in
-        ap (λ m. is_held tag m (log_at c h p.last.epoch i).k (log_at c h p.last.epoch i).index) (name.m ∙ ap (λ (g : LogGeneration). g.m) mine ∙ sym shape.m)
-        ∙ ap (λ n. is_held tag q.tail.m n (log_at c h p.last.epoch i).index) (name.k ∙ ap (λ (g : LogGeneration). g.k) mine ∙ sym shape.k)
-        ∙ ap (is_held tag q.tail.m q.tail.k) name.index
-        ∙ held
-
 -- ---- it is whole
 
 -- it goes through the end of the copy, or has 100 records

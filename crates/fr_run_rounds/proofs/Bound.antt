@@ -27,6 +27,7 @@ use Rattle.fr_run.specs.Laws.{Laws}
 use Rattle.fr_run.proofs.Growth.{rec_is}
 use Rattle.fr_run_headline.specs.LogLaws.{tally_in, tally}
 use Rattle.fr_run_outcomes.specs.Locking.{HasNoRoom}
+use Rattle.fr_run_outcomes.proofs.Copying.{all_true}
 use Rattle.fr_run_outcomes.specs.Uncontested.{AsksNoGreater, UncontestedHasNoRoom}
 use Rattle.fr_run_rounds.specs.Rounds.{IsRound, turns_of, AreRounds}
 use Rattle.fr_run_rounds.specs.Ending.{CellsAnswer, FewAreSilent, RepliedAnswer, NewAnswer, EnoughAnswer, ReadingIsOneRound, LockingIsOneRound, HasCopied, CopyingBringsRecords, SeedingIsOneRound, WritingIsOneRound, IsOver, CopiesFewer, EndsInRounds, UncontestedIsChosen}
@@ -218,11 +219,7 @@ one_write rules c config answers b h turns r n o low = go (nat_lt (phase_number 
         (λ still. rules.writing c h turns config o.run b answers o.round o.enough.cells r n o.at (phase_writing r.phase low (ltb-true (phase_number r.phase) 4 e)) o.there still)
     go false e = later_from rules.laws c answers b h turns r n o 4 (ltb-false (phase_number r.phase) 4 e)
 
--- a copy of which each tag has more records than it has in all is complete
-all_true : (f : TagPart → Bool) (ps : List TagPart) (d : TagPart) → ((t : ℕ) → t < length ps → f (get_or ps t d) ≡ true) → list_all f ps ≡ true
-all_true f [] d each = refl
-all_true f (p ∷ ps) d each = rw (each 0 (omega arith)) (all_true f ps d (λ t less. each (suc t) (omega (arith, less))))
-
+-- a copy that has fewer records of each tag than were carried has all
 is_whole : (c : Config) → PeekRules c → (h : List Turn) → IsRun c h → (b : ℕ) (r : RecState) → rec_at c h b ≡ Some r → (records : ℕ) → CopiesFewer c r records → Carries c records r → HasAll r
 is_whole c rules h run b r at records fewer (inr up) = inr up
 is_whole c rules h run b r at records fewer (inl (phase, copied)) = inl (phase, whole)

@@ -97,12 +97,3 @@ log_answer c (t ∷ h) run b e i a u (inl k) =
     asked : Sent h (node.Recoverer b) (node.Log e i) (ask.Log a) ⊎ StorageMayAsk c h (node.Recoverer b) a → Sent h (node.Recoverer b) (node.Log e i) (ask.Log a)
     asked (inl sent) = sent
     asked (inr may) = absurd may
-
--- ---- parents
-
--- the logs of the epoch that a recoverer ends are seeded
-pub parent_seeded : Laws → ChosenIsSeeded → WritingIsSeeded → (c : Config) (h : List Turn) → IsConfig c → IsRun c h → (b : ℕ) (r : RecState) (p : Parent) → rec_at c h b ≡ Some r → r.parent ≡ Some p → IsSeededEpoch c h p.last.epoch
-parent_seeded laws chosen writing c h config run b r p at parent = elim (parent_is_planned laws c h config run b r p at parent) [
-  | inl first ↦ subst (IsSeededEpoch c h) (sym first) (chosen c h config run first_epoch (first_is_chosen c h))
-  | inr k ↦ writing c h config run p.last.epoch k.recoverer k.at k.written
-]

@@ -5,7 +5,6 @@ pub mod Votes
 pub mod Behind
 pub mod Found
 pub mod Locks
-pub mod SeedAnswers
 pub mod Seeds
 pub mod Answers
 pub mod Peeks

@@ -36,12 +36,13 @@ use Rattle.fr_run_outcomes.proofs.Lists.{left_has, map_has}
 use Rattle.fr_run_outcomes.proofs.Asked.{replied_more}
 use Rattle.fr_run_outcomes.proofs.Counts.{count_by-range, count_short, log_count_either, among_map, among-from_Contains}
 use Rattle.fr_run_outcomes.proofs.LockAnswers.{IsLostSo, ended_so, locks, lock_heard, reply_counts, or_true}
+use Rattle.fr_run_outcomes.proofs.Locking.{parent_seeded, all_cover}
 use Rattle.fr_run_outcomes.proofs.Waiting.{locking_waits}
 use Rattle.fr_run_rounds.specs.Rounds.{WasAnswered, HearsAnswer}
 use Rattle.fr_run_rounds.specs.Ending.{silent_logs, FewAreSilent, LockingIsOneRound}
 use Rattle.fr_run_rounds.proofs.Along.{HoldsOf, holds_at, Keeps, along, both_keep, through, run_back, IsFrom, from_change, from_keeps, phase_locking}
 use Rattle.fr_run_rounds.proofs.Behind.{parent_keeps, IsBehindLog, sent_behind}
-use Rattle.fr_run_rounds.proofs.Found.{locking_parent, LogAnswer, log_answer, parent_seeded}
+use Rattle.fr_run_rounds.proofs.Found.{locking_parent, LogAnswer, log_answer}
 
 -- ---- a log that replied
 
@@ -109,15 +110,6 @@ lock_asked : (r : RecState) (p : Parent) (end : EndState) (i : ℕ) → r.phase 
 lock_asked r p end i phase parent tallied below fresh =
     subst (λ xs. Contains xs (node.Log p.last.epoch i, ask.Log (Lock p.last.epoch))) (sym (ap (λ ph. pending_in ph r) phase ∙ ap (λ o. locks_of o r.end) parent ∙ ap (λ o. locks_of (Some p) o) tallied))
     (map_has (λ j. (node.Log p.last.epoch j, ask.Log (Lock p.last.epoch))) (left p.last.m (has_replied end)) i (left_has p.last.m (has_replied end) i below fresh))
-
--- where all replied but fewer than k logs, the replies cover
-all_cover : (end : EndState) (gone : List ℕ) → end.k ≤ end.m → length gone < end.k → ((i : ℕ) → i < end.m → (has_replied end i || is_among gone i) ≡ true) → is_covered end ≡ true
-all_cover end gone fits few each =
-    lt-ltb (end.m - end.k) (log_count end.m (responders end)) (
-    let both = log_count_either end.m (responders end) gone (λ i l. ap (λ b. b || is_among gone i) (among_map (λ (r : Reply). r.log) end.replies i) ∙ each i l) in
-    let told = count_by-range (is_among gone) end.m in
-    let short = count_short gone end.m in
-    omega (arith, both, told, short, few, fits))
 
 pub record LockRules : Type 0 where
   pub laws : Laws
@@ -220,10 +212,17 @@ locking_is_one_round rules c h turns config run b answers round r n at phase the
         by_log i below false e =
             ap (λ y. has_replied t.0 i || y) (among-from_Contains (silent_logs answers p.0.last) i (left_has p.0.last.m (λ j. answers (node.Log p.0.last.epoch j)) i below e)) ∙ or_true (has_replied t.0 i)
 
+        few_among : (end : EndState) → end.k ≡ p.0.last.k → log_count end.m (silent_logs answers p.0.last) < end.k
+        few_among end k =
+            let less = few p.0 parent_last in
+            let told = count_by-range (is_among (silent_logs answers p.0.last)) end.m in
+            let short = count_short (silent_logs answers p.0.last) end.m in
+            omega (arith, less, k, told, short)
+
         covered : is_covered (tally n) ≡ true
         covered =
             ap (λ o. is_covered (tally_in o)) t.1
             ∙ all_cover t.0 (silent_logs answers p.0.last)
             (let limits = own.kept.parent p.0 parent_last in let high = limits.k_high in let m = t.2 in let k = t.3 in omega (arith, high, m, k))
-            (let less = few p.0 parent_last in let k = t.3 in omega (arith, less, k))
+            (few_among t.0 t.3)
             (λ i below. by_log i (let m = t.2 in omega (arith, below, m)) (answers (node.Log p.0.last.epoch i)) refl)

@@ -45,13 +45,13 @@ use Rattle.fr_run_headline.proofs.Places.{filter_has}
 use Rattle.fr_run_outcomes.proofs.Lists.{in_range, map_has, flat_has}
 use Rattle.fr_run_outcomes.proofs.Counts.{among-from_Contains}
 use Rattle.fr_run_outcomes.proofs.Copies.{IsOfReplies, made_from, begins_same, of_replies, is_source}
-use Rattle.fr_run_outcomes.proofs.Copying.{peek_rises}
+use Rattle.fr_run_outcomes.proofs.Copying.{peek_rises, peek_answered, peek_asked, peek_heard, comes_on}
 use Rattle.fr_run_rounds.specs.Rounds.{WasAnswered, HearsAnswer}
 use Rattle.fr_run_rounds.specs.Ending.{RepliedAnswer, HasCopied, CopyingBringsRecords}
 use Rattle.fr_run_rounds.proofs.Along.{HoldsOf, holds_at, Keeps, along, through, run_back}
 use Rattle.fr_run_rounds.proofs.Behind.{SamePlan, HasPlanOf, plan_now, plan_keeps, parent_keeps, IsPeekOf, IsBehindLog, sent_behind}
 use Rattle.fr_run_rounds.proofs.Found.{copying_parent, copying_plan, LogAnswer, log_answer}
-use Rattle.fr_run_rounds.proofs.Answers.{peek_answered, brings_whole}
+use Rattle.fr_run_rounds.proofs.Answers.{brings_whole}
 
 -- ---- the part of a tag
 
@@ -303,51 +303,6 @@ still_keeps c rules b p q tag v n inside h run r from u at told (inl k) = go (co
 
 -- ---- an answer to its peek
 
--- a copy of which a tag is short is not complete
-short_copy : (s : TailState) (tag : ℕ) → tag < length s.parts → (part_at s tag).reached < s.rv → is_complete s ≡ false
-short_copy s tag below short = list_all_at (λ (x : TagPart). x.reached == s.rv) s.parts tag (new_part s.pev) below (ne_eqb (part_at s tag).reached s.rv (λ e. omega (arith, e, short)))
-
-peek_asked : (c : Config) → PeekRules c → (h : List Turn) → IsRun c h → (b : ℕ) (r : RecState) → rec_at c h b ≡ Some r → r.phase ≡ Copying → (p : Parent) (q : Plan) → r.parent ≡ Some p → r.plan ≡ Some q → (tag : ℕ) → tag < length c.begins
-    → (i : ℕ) → Contains q.tail.responders i → is_held tag q.tail.m q.tail.k i ≡ true → (part_at q.tail tag).reached < q.tail.rv → Contains (pending r) (node.Log p.last.epoch i, ask.Log (Peek p.last.epoch tag (part_at q.tail tag).reached 100))
-peek_asked c rules h run b r at phase p q parent plan tag below i has held short =
-    subst (λ xs. Contains xs (node.Log p.last.epoch i, ask.Log (Peek p.last.epoch tag (part_at q.tail tag).reached 100))) (sym is)
-    (flat_has (peeks_of_tag r p q) (range_with_len 0 (length r.begins)) tag (node.Log p.last.epoch i, ask.Log (Peek p.last.epoch tag (part_at q.tail tag).reached 100)) (in_range (length r.begins) tag (let e = ap (λ (xs : List (List ℕ)). length xs) begins in omega (arith, e, below))) mine)
-  where
-    begins : r.begins ≡ c.begins
-    begins = begins_same rules.laws c h run b r at
-
-    parts : length q.tail.parts ≡ length c.begins
-    parts = (rules.copies c h rules.config run b r p q at parent plan).tags
-
-    is : pending r ≡ peeks_of r (Some p) (Some q) (range_with_len 0 (length r.begins))
-    is =
-        ap (λ ph. pending_in ph r) phase
-        ∙ ap (λ x. cond x (seeds_of r r.plan) (peeks_of r r.parent r.plan (range_with_len 0 (length r.begins)))) (ap is_copied_in plan ∙ short_copy q.tail tag (let e = parts in omega (arith, e, below)) short)
-        ∙ ap (λ o. peeks_of r o r.plan (range_with_len 0 (length r.begins))) parent
-        ∙ ap (λ o. peeks_of r (Some p) o (range_with_len 0 (length r.begins))) plan
-
-    mine : Contains (peeks_of_tag r p q tag) (node.Log p.last.epoch i, ask.Log (Peek p.last.epoch tag (part_at q.tail tag).reached 100))
-    mine = subst (λ x. Contains {X = NodeId × Ask} (cond x (map (λ j. (node.Log p.last.epoch j, ask.Log (Peek p.last.epoch tag (part_at q.tail tag).reached 100))) (filter (λ j. is_held tag q.tail.m q.tail.k j) q.tail.responders)) []) (node.Log p.last.epoch i, ask.Log (Peek p.last.epoch tag (part_at q.tail tag).reached 100)))
-        (sym (lt-ltb (part_at q.tail tag).reached q.tail.rv short))
-        (map_has (λ j. (node.Log p.last.epoch j, ask.Log (Peek p.last.epoch tag (part_at q.tail tag).reached 100))) (filter (λ j. is_held tag q.tail.m q.tail.k j) q.tail.responders) i (filter_has (λ j. is_held tag q.tail.m q.tail.k j) q.tail.responders i has held))
-
--- what a recoverer that copies is once it heard an answer
-peek_heard : (r : RecState) (p : Parent) (q : Plan) (i : ℕ) (peeked : PeekedContent) → r.phase ≡ Copying → r.parent ≡ Some p → r.plan ≡ Some q → after_hear r (node.Log p.last.epoch i) (tell.Log (Peeked peeked)) ≡ with_tail r q i peeked
-peek_heard r p q i peeked phase parent plan =
-    ap (after_heed r) (
-    ap (λ ph. heed_in ph r (OfLog p.last.epoch i (Peeked peeked))) phase
-    ∙ ap (λ o. heed_peeked o r.plan p.last.epoch i peeked) parent
-    ∙ ap (λ o. heed_peeked (Some p) o p.last.epoch i peeked) plan
-    ∙ ap (λ y. cond y (Given q i peeked) Nothing) (eq-eqb p.last.epoch p.last.epoch refl))
-
--- an answer that goes on
-comes_on : (s : TailState) (i : ℕ) (peeked : PeekedContent) → is_responder s i peeked.tag ≡ true → peeked.after ≡ (part_at s peeked.tag).reached → (part_at s peeked.tag).reached < s.rv → peeked.after < peeked.upto → goes_on s i peeked ≡ true
-comes_on s i peeked responds at short up =
-    ap (λ x. x && ((peeked.after == (part_at s peeked.tag).reached) && (nat_lt peeked.after s.rv && nat_lt peeked.after peeked.upto))) responds
-    ∙ ap (λ x. x && (nat_lt peeked.after s.rv && nat_lt peeked.after peeked.upto)) (eq-eqb peeked.after (part_at s peeked.tag).reached at)
-    ∙ ap (λ x. x && nat_lt peeked.after peeked.upto) (lt-ltb peeked.after s.rv (omega (arith, at, short)))
-    ∙ lt-ltb peeked.after peeked.upto up
-
 -- the answer to the peek of a tag that stands still brings it further
 hears : (c : Config) → PeekRules c → (b : ℕ) (p : Parent) (q : Plan) (tag v n : ℕ) → tag < length c.begins → (i : ℕ) → Contains q.tail.responders i → is_held tag q.tail.m q.tail.k i ≡ true → q.tail.pev ≤ v → v < q.tail.rv
     → (mid : List Turn) (m : RecState) (u : Tell) → IsRun c mid → rec_at c mid b ≡ Some m → Told mid (node.Log p.last.epoch i) (node.Recoverer b) u → WasAnswered c mid b (node.Log p.last.epoch i) (ask.Log (Peek p.last.epoch tag v 100)) u
@@ -524,7 +479,7 @@ copying_brings_records ruled c h turns config run b answers round r n at phase t
     asked short many =
         holds_at (rec_at c (turns ++ h) b) (HasBrought tag (records + 100))
         (through c b h turns (node.Log p.0.last.epoch k.log) (ask.Log (Peek p.0.last.epoch tag (part_at q.0.tail tag).reached 100)) run
-        (round r at (node.Log p.0.last.epoch k.log) (ask.Log (Peek p.0.last.epoch tag (part_at q.0.tail tag).reached 100)) (peek_asked c rules h run_start b r at phase p.0 q.0 p.1 q.1 tag inside k.log k.replied k.holds short) k.answers_it) r at
+        (round r at (node.Log p.0.last.epoch k.log) (ask.Log (Peek p.0.last.epoch tag (part_at q.0.tail tag).reached 100)) (peek_asked rules.laws rules.copies c h config run_start b r p.0 q.0 at phase p.1 q.1 tag inside k.log k.replied k.holds short) k.answers_it) r at
         (λ y. IsStill p.0 q.0 tag (part_at q.0.tail tag).reached records y ⊎ HasBrought tag (records + 100) y) (HasBrought tag (records + 100))
         (still_keeps c rules b p.0 q.0 tag (part_at q.0.tail tag).reached records inside) (brought_keeps c rules b tag (records + 100) inside)
         (inl (record { phase = phase; parent = p.1; plan = plan_now r q.0 q.1; still = record { reached = refl; records = many } }))

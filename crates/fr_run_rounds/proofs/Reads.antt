@@ -32,12 +32,13 @@ use Rattle.fr_run.specs.Nodes.{cell_at, rec_at}
 use Rattle.fr_run.specs.Run.{IsRun}
 use Rattle.fr_run.specs.Laws.{Laws}
 use Rattle.fr_run.proofs.ByTurn.{rec_by_turn}
+use Rattle.fr_run_outcomes.proofs.Asked.{read_more, read_cells}
 use Rattle.fr_run_outcomes.proofs.Lists.{left_has, map_has}
 use Rattle.fr_run_outcomes.proofs.Counts.{Contains-from_among}
 use Rattle.fr_run_rounds.specs.Rounds.{WasAnswered, HearsAnswer}
 use Rattle.fr_run_rounds.specs.Ending.{CellsAnswer, ReadingIsOneRound}
 use Rattle.fr_run_rounds.proofs.Along.{HoldsOf, holds_at, Keeps, keeps_by, along, through, run_back, IsFrom, from_change, phase_reading}
-use Rattle.fr_run_rounds.proofs.Tallies.{read_more, read_cells, read_heard, waits_short}
+use Rattle.fr_run_rounds.proofs.Tallies.{read_heard, waits_short}
 
 -- ---- a tally of a recoverer that reads waits
 

@@ -30,11 +30,11 @@ use Rattle.fr_run_outcomes.proofs.Lists.{left_has, map_has}
 use Rattle.fr_run_outcomes.proofs.Asked.{in_more}
 use Rattle.fr_run_outcomes.proofs.Counts.{full_is_long}
 use Rattle.fr_run_outcomes.proofs.Waiting.{copying_lacks}
+use Rattle.fr_run_outcomes.proofs.Seeding.{seed_answered}
 use Rattle.fr_run_rounds.specs.Rounds.{WasAnswered, HearsAnswer}
 use Rattle.fr_run_rounds.specs.Ending.{NewAnswer, SeedingIsOneRound}
 use Rattle.fr_run_rounds.proofs.Along.{HoldsOf, holds_at, Keeps, keeps_by, along, both_keep, through, run_back, IsFrom, from_change, from_keeps, phase_copying}
 use Rattle.fr_run_rounds.proofs.Found.{copying_plan, LogAnswer, log_answer}
-use Rattle.fr_run_rounds.proofs.SeedAnswers.{seed_answered}
 
 -- ---- a log that is seeded
 

@@ -16,85 +16,11 @@ use Rattle.fr_register.specs.declared.poll.Progress.TheVariants as poll
 use Rattle.fr_register.specs.declared.poll.Refusal.{Refusal}
 use Rattle.fr_tags.specs.CoverLaw.{DistinctLogsCount}
 use Rattle.fr_tags.specs.Placement.{is_among}
-use Rattle.fr_run_outcomes.proofs.Lists.{any_more}
+use Rattle.fr_run_outcomes.proofs.Asked.{read_more, write_more}
+use Rattle.fr_run_outcomes.proofs.Writing.{waits_so}
 use Rattle.fr_run_outcomes.proofs.Counts.{count_by-range, count_into, count_short}
 
--- ---- what was heard
-
-heard_more : (p : Poll) (i j : ℕ) → is_heard p j ≡ true → is_heard (with_heard p i) j ≡ true
-heard_more p i j e = go (is_refusal_of j p.refusal) e
-  where
-    go : (b : Bool) → (b || list_any (λ x. x == j) p.heard) ≡ true → (b || list_any (λ x. x == j) (p.heard ++ i ∷ [])) ≡ true
-    go true k = refl
-    go false k = any_more (λ x. x == j) p.heard (i ∷ []) k
-
-refused_more : (p : Poll) (i promised j : ℕ) → is_heard p j ≡ true → is_heard (with_refusal p i promised) j ≡ true
-refused_more p i promised j e = go p.refusal refl
-  where
-    none : p.refusal ≡ None → list_any (λ x. x == j) p.heard ≡ true
-    none at = sym (ap (λ o. is_refusal_of j o || list_any (λ x. x == j) p.heard) at) ∙ e
-
-    waits : (b : Bool) → p.refusal ≡ None → is_heard (refused_at (cond b poll.Majority poll.Waiting) p i promised) j ≡ true
-    waits true at = e
-    waits false at = also (i == j)
-      where
-        also : (b : Bool) → (b || list_any (λ x. x == j) p.heard) ≡ true
-        also true = refl
-        also false = none at
-
-    go : (o : Option Refusal) → p.refusal ≡ o → is_heard (refused_at (progress_from p p.refusal) p i promised) j ≡ true
-    go (Some refusal) at = subst (λ o. is_heard (refused_at (progress_from p o) p i promised) j ≡ true) (sym at) e
-    go None at = subst (λ o. is_heard (refused_at (progress_from p o) p i promised) j ≡ true) (sym at) (waits (is_majority p) at)
-
-pub read_more : (t : ReadState) (i : ℕ) (u : CellTell) (j : ℕ) → is_heard t.poll j ≡ true → is_heard (hear_read t i u).poll j ≡ true
-read_more t i u j e = go u (is_wanted t.poll i)
-  where
-    go : (u : CellTell) (b : Bool) → is_heard (cond b (take_read t i u) t).poll j ≡ true
-    go u false = e
-    go (Promise w v) true = heard_more t.poll i j e
-    go (Written b) true = e
-    go (Refused promised) true = refused_more t.poll i promised j e
-    go TwoValues true = refused_more t.poll i t.ballot j e
-
-pub read_cells : (t : ReadState) (i : ℕ) (u : CellTell) → (hear_read t i u).poll.cells ≡ t.poll.cells
-read_cells t i u = go u (is_wanted t.poll i)
-  where
-    refused : (promised : ℕ) (x : Progress) → (refused_at x t.poll i promised).cells ≡ t.poll.cells
-    refused promised poll.Waiting = refl
-    refused promised poll.Majority = refl
-    refused promised (poll.Lost before) = refl
-
-    go : (u : CellTell) (b : Bool) → (cond b (take_read t i u) t).poll.cells ≡ t.poll.cells
-    go u false = refl
-    go (Promise w v) true = refl
-    go (Written b) true = refl
-    go (Refused promised) true = refused promised (progress_of t.poll)
-    go TwoValues true = refused t.ballot (progress_of t.poll)
-
-pub write_more : (t : WriteState) (i : ℕ) (u : CellTell) (j : ℕ) → is_heard t.poll j ≡ true → is_heard (hear_write t i u).poll j ≡ true
-write_more t i u j e = go u (is_wanted t.poll i)
-  where
-    written : (b : Bool) → is_heard (cond b (record t { poll = with_heard t.poll i }) t).poll j ≡ true
-    written true = heard_more t.poll i j e
-    written false = e
-
-    go : (u : CellTell) (b : Bool) → is_heard (cond b (take_write t i u) t).poll j ≡ true
-    go u false = e
-    go (Promise w v) true = e
-    go (Written b) true = written (b == t.ballot)
-    go (Refused promised) true = refused_more t.poll i promised j e
-    go TwoValues true = refused_more t.poll i t.ballot j e
-
 -- ---- an answer is heard
-
--- a tally that waits has no refusal, and no majority
-pub waits_so : (p : Poll) → progress_of p ≡ poll.Waiting → (p.refusal ≡ None) × (is_majority p ≡ false)
-waits_so p e = go p.refusal refl (is_majority p) refl
-  where
-    go : (o : Option Refusal) → p.refusal ≡ o → (x : Bool) → is_majority p ≡ x → (p.refusal ≡ None) × (is_majority p ≡ false)
-    go (Some refusal) at x f = (let d : poll.Lost refusal.promised ≡ poll.Waiting = sym (ap (progress_from p) at) ∙ e in absurd (cc))
-    go None at true f = (let d : poll.Majority ≡ poll.Waiting = sym (ap (progress_from p) at ∙ ap (λ y. cond y poll.Majority poll.Waiting) f) ∙ e in absurd (cc))
-    go None at false f = (at, f)
 
 or_last : (b : Bool) → (b || (true || false)) ≡ true
 or_last true = refl

@@ -28,13 +28,14 @@ use Rattle.fr_run.specs.Nodes.{cell_at, rec_at}
 use Rattle.fr_run.specs.Run.{IsRun}
 use Rattle.fr_run.specs.Laws.{Laws}
 use Rattle.fr_run.proofs.Growth.{rec_is}
+use Rattle.fr_run_outcomes.proofs.Asked.{write_more}
 use Rattle.fr_run_outcomes.proofs.Lists.{left_has, map_has}
 use Rattle.fr_run_outcomes.proofs.Counts.{Contains-from_among}
 use Rattle.fr_run_outcomes.proofs.Waiting.{WritesIn, writing_waits}
 use Rattle.fr_run_rounds.specs.Rounds.{WasAnswered, HearsAnswer}
 use Rattle.fr_run_rounds.specs.Ending.{CellsAnswer, WritingIsOneRound}
 use Rattle.fr_run_rounds.proofs.Along.{HoldsOf, holds_at, Keeps, keeps_by, along, through, run_back, IsFrom, from_change, from_keeps, phase_writing}
-use Rattle.fr_run_rounds.proofs.Tallies.{write_more, write_heard, waits_short}
+use Rattle.fr_run_rounds.proofs.Tallies.{write_heard, waits_short}
 use Rattle.fr_run_rounds.proofs.Reads.{cell_answer}
 
 -- ---- a cell that is heard
