@@ -1,5 +1,5 @@
 -- What each hear of a recoverer keeps is kept along the turns of a run; and no recoverer goes back to an earlier phase.
-use Rattle.std.proofs.Common.{◌≡◌, ℕ, ◌<◌, ◌≤◌, Bool, true, false, cond, ◌==◌, List, [], ◌∷◌, ◌++◌, append_assoc, Option, None, Some, refl, sym, ◌∙◌, ap, subst, arith}
+use Rattle.std.proofs.Common.{◌≡◌, ℕ, ◌<◌, ◌≤◌, cond, List, [], ◌∷◌, ◌++◌, append_assoc, Option, None, Some, refl, sym, ◌∙◌, ap, subst, arith}
 use Rattle.std.specs.Option.{option_map}
 use Rattle.std.proofs.lemmas.Bool.{eq-eqb}
 use Rattle.fr_base.specs.declared.place.NodeId.{NodeId}
@@ -63,7 +63,7 @@ pub run_back : (c : Config) (more h : List Turn) → IsRun c (more ++ h) → IsR
 run_back c [] h run = run
 run_back c (t ∷ more) h run = run_back c more h run.1
 
-hear_is : (c : Config) (b : ℕ) (h : List Turn) (m : RecState) (to : NodeId) (u : Tell) (asks : List Sending) → rec_at c h b ≡ Some m → rec_at c (RecHeard b to u asks ∷ h) b ≡ Some (after_hear m to u)
+pub hear_is : (c : Config) (b : ℕ) (h : List Turn) (m : RecState) (to : NodeId) (u : Tell) (asks : List Sending) → rec_at c h b ≡ Some m → rec_at c (RecHeard b to u asks ∷ h) b ≡ Some (after_hear m to u)
 hear_is c b h m to u asks at =
     ap (λ x. cond x (option_map (λ s. after_hear s to u) (rec_at c h b)) (rec_at c h b)) (eq-eqb b b refl)
     ∙ ap (λ o. option_map (λ s. after_hear s to u) o) at

@@ -1,5 +1,5 @@
 -- What stands behind the locks and the peeks that a recoverer sent: it has a parent, and for a peek a plan.
-use Rattle.std.proofs.Common.{◌≡◌, ℕ, Bool, true, false, cond, ◌==◌, nat_lt, map, filter, List, [], ◌∷◌, ◌++◌, length, Option, None, Some, inl, inr, ◌⊎◌, refl, sym, ◌∙◌, ap, subst}
+use Rattle.std.proofs.Common.{◌≡◌, ℕ, Bool, true, false, cond, nat_lt, map, filter, List, [], ◌∷◌, length, Option, None, Some, inl, inr, refl, sym, ◌∙◌, ap, subst}
 use Rattle.std.specs.Prelude.{is_some}
 use Rattle.std.specs.List.{Contains, range_with_len}
 use Rattle.std.specs.Option.{option_map}
@@ -15,7 +15,6 @@ use Rattle.fr_log.specs.declared.ask.LogTell.TheVariants as ltell
 use Rattle.fr_ask.specs.declared.ask.Ask.{Ask}
 use Rattle.fr_ask.specs.declared.ask.Ask.TheVariants as ask
 use Rattle.fr_ask.specs.declared.tell.Tell.{Tell}
-use Rattle.fr_state.specs.Generations.{LogGeneration}
 use Rattle.fr_tail.specs.Tail.{TagPart, part_at, after_hear as after_peeked}
 use Rattle.fr_epoch.specs.EndTally.{EndState}
 use Rattle.fr_epoch.specs.Recoverer.{RecState, Phase, Parent, Plan, Reading, Locking, Copying, Writing, Chosen, Lost, new_recoverer, is_copied}
@@ -25,7 +24,7 @@ use Rattle.fr_epoch.specs.Asks.{locks_of, peeks_of_tag, peeks_of, seeds_of, writ
 use Rattle.fr_epoch.specs.Change.{Change, Stands, LosesReads, Reads, Finds, Locks, LosesLocks, Plans, Copies, Seeds, SeedsAll, Writes, LosesWrites, Chooses, Marks}
 use Rattle.fr_epoch.specs.Law.{IsRecoverer, RecGrows}
 use Rattle.fr_run.specs.Config.{Config}
-use Rattle.fr_run.specs.Turn.{Turn, Begun, CellTurn, LogTurn, SeqTurn, Submitted, ProxyHeard, RecHeard, StorageHeard, Gone, Crashed, Sent, Told, actor_of, asks_of}
+use Rattle.fr_run.specs.Turn.{Turn, Begun, CellTurn, LogTurn, SeqTurn, Submitted, ProxyHeard, RecHeard, StorageHeard, Gone, Crashed, Sent, actor_of, asks_of}
 use Rattle.fr_run.specs.Nodes.{rec_at}
 use Rattle.fr_run.specs.Run.{IsTurn, IsRun}
 use Rattle.fr_run.specs.Laws.{Laws}
@@ -46,7 +45,7 @@ pub record SamePlan (q x : Plan) : Type 0 where
   pub rv : x.tail.rv ≡ q.tail.rv
   pub generation : x.generation ≡ q.generation
 
-same_plan : (q : Plan) → SamePlan q q
+pub same_plan : (q : Plan) → SamePlan q q
 same_plan q = record { responders = refl; m = refl; k = refl; pev = refl; rv = refl; generation = refl }
 
 pub same_on : (q x y : Plan) → SamePlan q x → SamePlan x y → SamePlan q y

@@ -1,7 +1,7 @@
 -- A recoverer of which enough nodes answer is over after four rounds and those in which it copies.
-use Rattle.std.proofs.Common.{◌≡◌, ℕ, zero, suc, ◌+◌, ◌*◌, ◌<◌, ◌≤◌, Bool, true, false, cond, nat_lt, ◌==◌, List, [], ◌∷◌, ◌++◌, append_assoc, length, get_or, Option, None, Some, inl, inr, ◌⊎◌, refl, sym, ◌∙◌, ap, subst, arith}
+use Rattle.std.proofs.Common.{◌≡◌, ℕ, zero, suc, ◌+◌, ◌*◌, ◌<◌, ◌≤◌, Bool, true, false, cond, nat_lt, ◌==◌, List, [], ◌∷◌, ◌++◌, append_assoc, length, Option, None, Some, inl, inr, ◌⊎◌, refl, sym, ◌∙◌, ap, subst, arith}
 use Rattle.std.specs.Prelude.{is_some}
-use Rattle.std.specs.List.{Contains, All, list_all}
+use Rattle.std.specs.List.{Contains}
 use Rattle.std.proofs.lemmas.Bool.{cases_lt, eq-eqb, ltb-true, ltb-false}
 use Rattle.std.proofs.lemmas.List.Elements.{Contains-append_left}
 use Rattle.fr_base.specs.Shape.{ShapeContent}
@@ -9,9 +9,8 @@ use Rattle.fr_base.specs.declared.place.NodeId.{NodeId}
 use Rattle.fr_base.specs.declared.place.NodeId.TheVariants as node
 use Rattle.fr_log.specs.declared.popped.PoppedTag.{PoppedTag}
 use Rattle.fr_state.specs.Generations.{LogGeneration}
-use Rattle.fr_tail.specs.Tail.{TagPart, new_part, part_at, is_complete}
+use Rattle.fr_tail.specs.Tail.{TagPart, new_part, part_at}
 use Rattle.fr_epoch.specs.declared.reply.Reply.{Reply}
-use Rattle.fr_epoch.specs.declared.why.LostWhy.{LostWhy}
 use Rattle.fr_epoch.specs.EndTally.{EndState, counts, with_reply}
 use Rattle.fr_epoch.specs.Recoverer.{RecState, Phase, Parent, Plan, Reading, Locking, Copying, Writing, Chosen, Lost, new_recoverer, is_copied_in, is_copied}
 use Rattle.fr_epoch.specs.Words.{Word, word_of}
@@ -26,15 +25,14 @@ use Rattle.fr_run.specs.StateLaws.{IsConfig}
 use Rattle.fr_run.specs.Laws.{Laws}
 use Rattle.fr_run.proofs.Growth.{rec_is}
 use Rattle.fr_run_headline.specs.LogLaws.{tally_in, tally}
-use Rattle.fr_run_outcomes.specs.Locking.{HasNoRoom}
 use Rattle.fr_run_outcomes.proofs.Copying.{all_true}
-use Rattle.fr_run_outcomes.specs.Uncontested.{AsksNoGreater, UncontestedHasNoRoom}
+use Rattle.fr_run_outcomes.specs.Uncontested.{UncontestedHasNoRoom}
 use Rattle.fr_run_rounds.specs.Rounds.{IsRound, turns_of, AreRounds}
-use Rattle.fr_run_rounds.specs.Ending.{CellsAnswer, FewAreSilent, RepliedAnswer, NewAnswer, EnoughAnswer, ReadingIsOneRound, LockingIsOneRound, HasCopied, CopyingBringsRecords, SeedingIsOneRound, WritingIsOneRound, IsOver, CopiesFewer, EndsInRounds, UncontestedIsChosen}
+use Rattle.fr_run_rounds.specs.Ending.{EnoughAnswer, ReadingIsOneRound, LockingIsOneRound, HasCopied, CopyingBringsRecords, SeedingIsOneRound, WritingIsOneRound, IsOver, CopiesFewer, EndsInRounds, UncontestedIsChosen}
 use Rattle.fr_run_rounds.proofs.Along.{HoldsOf, holds_at, Keeps, along, run_back, IsFrom, from_change, from_keeps, phase_reading, phase_locking, phase_copying, phase_writing}
 use Rattle.fr_run_rounds.proofs.Behind.{HasPlanOf, plan_now, plan_keeps, parent_keeps}
 use Rattle.fr_run_rounds.proofs.Found.{copying_parent, copying_plan}
-use Rattle.fr_run_rounds.proofs.Peeks.{PeekRules, HasMany, many_keeps}
+use Rattle.fr_run_rounds.proofs.PeekRound.{PeekRules, HasMany, many_keeps}
 
 -- ---- what is so at the end was so before
 

@@ -1,6 +1,5 @@
 -- A round can come, if the nodes whose answers a recoverer wants are up.
-use Rattle.std.proofs.Common.{◌≡◌, ℕ, ◌<◌, ◌≤◌, Bool, true, false, nat_lt, List, [], ◌∷◌, ◌++◌, Option, None, Some, inl, inr, ◌⊎◌, refl, sym, ◌∙◌, ap, subst, arith}
-use Rattle.std.specs.Prelude.{is_some}
+use Rattle.std.proofs.Common.{◌≡◌, ℕ, Bool, true, false, nat_lt, List, [], ◌∷◌, ◌++◌, Some, inl, inr, refl, sym, ◌∙◌, ap, subst, arith}
 use Rattle.std.specs.List.{Contains}
 use Rattle.std.proofs.lemmas.Bool.{ltb-true, true≢false}
 use Rattle.std.proofs.lemmas.List.Elements.{All-contains}
@@ -28,7 +27,7 @@ use Rattle.fr_run.proofs.Growth.{rec_is}
 use Rattle.fr_run_headline.proofs.Logs.{logs_stay}
 use Rattle.fr_run_outcomes.specs.Pending.{PendingIsSent, IsAnswerOf}
 use Rattle.fr_run_outcomes.proofs.Going.{begun_stays}
-use Rattle.fr_run_rounds.specs.Rounds.{HearsAnswer, HasRound, RoundCanCome}
+use Rattle.fr_run_rounds.specs.Rounds.{HearsAnswer, RoundCanCome}
 use Rattle.fr_run_rounds.proofs.Along.{hear_is}
 use Rattle.fr_run_rounds.proofs.Behind.{IsBehindLog, Behind, behind_in}
 
@@ -119,9 +118,9 @@ exchange laws c answers b h asks k to a t u answer turn lossless same told = rec
   ready = λ x d ready.
       ready_on laws c b (t ∷ k.turns ++ h) (RecHeard b to u (new_asks k.recoverer to u)) run_heard (λ who e. absurd (cc)) x d
       (ready_on laws c b (k.turns ++ h) t run_asked lossless x d (k.ready x d ready));
-  heard = λ s there yes. elim (Contains-cases (to, a) asks s there) [
+  heard = λ s there heeds. elim (Contains-cases (to, a) asks s there) [
     | inl now ↦ subst (λ (x : NodeId × Ask). HearsAnswer c h (RecHeard b to u (new_asks k.recoverer to u) ∷ t ∷ k.turns) b x.0 x.1) now (record { after = []; tell = u; asks = new_asks k.recoverer to u; before = t ∷ k.turns; is = refl; answered = inl answer })
-    | inr before ↦ later_heard c h (t ∷ k.turns) b s.0 s.1 (RecHeard b to u (new_asks k.recoverer to u)) (later_heard c h k.turns b s.0 s.1 t (k.heard s before yes))
+    | inr before ↦ later_heard c h (t ∷ k.turns) b s.0 s.1 (RecHeard b to u (new_asks k.recoverer to u)) (later_heard c h k.turns b s.0 s.1 t (k.heard s before heeds))
   ];
 }
   where
@@ -164,7 +163,7 @@ comes laws c answers b h run r at up [] each = record {
   at = at;
   up = up;
   ready = λ to a k. k;
-  heard = λ s there yes. absurd (Contains-none there);
+  heard = λ s there heeds. absurd (Contains-none there);
 }
 comes laws c answers b h run r at up ((to, a) ∷ asks) each = go (comes laws c answers b h run r at up asks (λ s there. each s (later s there))) (answers to) refl
   where
@@ -180,9 +179,9 @@ comes laws c answers b h run r at up ((to, a) ∷ asks) each = go (comes laws c 
       at = k.at;
       up = k.up;
       ready = k.ready;
-      heard = λ s there yes. elim (Contains-cases (to, a) asks s there) [
-        | inl now ↦ absurd (true≢false (sym (subst (λ (x : NodeId × Ask). answers x.0 ≡ true) (sym now) yes) ∙ e))
-        | inr before ↦ k.heard s before yes
+      heard = λ s there heeds. elim (Contains-cases (to, a) asks s there) [
+        | inl now ↦ absurd (true≢false (sym (subst (λ (x : NodeId × Ask). answers x.0 ≡ true) (sym now) heeds) ∙ e))
+        | inr before ↦ k.heard s before heeds
       ];
     }
 
@@ -190,13 +189,13 @@ pub round_can_come : Laws → PendingIsSent → RoundCanCome
 round_can_come laws sent c h run b answers r at up nodes = record {
   turns = all.turns;
   is_run = all.is_run;
-  round = λ s here to a there yes. all.heard (to, a) (subst (λ xs. Contains xs (to, a)) (same s here) there) yes;
+  round = λ s here to a there heeds. all.heard (to, a) (subst (λ xs. Contains xs (to, a)) (same s here) there) heeds;
 }
   where
     all : Comes c answers b h (pending r)
-    all = comes laws c answers b h run r at up (pending r) (λ s there yes. record {
+    all = comes laws c answers b h run r at up (pending r) (λ s there heeds. record {
       sent = sent c h run b r at s.0 s.1 there;
-      up = nodes s.0 s.1 there yes;
+      up = nodes s.0 s.1 there heeds;
       may = askable r s.0 s.1 (All-contains (λ x. AccountsFor r x.0 x.1) (pending r) s (laws.rec_pending r (rec_is laws c h run b r at).kept.come_by) there) (behind_in r.phase r s there);
     })
 

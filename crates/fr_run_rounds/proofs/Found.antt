@@ -1,7 +1,6 @@
 -- What a recoverer has found by its phase, and answers of logs.
-use Rattle.std.proofs.Common.{◌≡◌, ℕ, ◌<◌, true, List, [], ◌∷◌, ◌++◌, Option, None, Some, inl, inr, ◌⊎◌, refl, sym, ◌∙◌, ap, subst}
+use Rattle.std.proofs.Common.{◌≡◌, ℕ, true, List, [], ◌∷◌, ◌++◌, Option, None, Some, inl, inr, ◌⊎◌, refl, sym, ◌∙◌, ap, subst}
 use Rattle.std.specs.Prelude.{IfSome, is_some}
-use Rattle.fr_base.specs.declared.place.NodeId.{NodeId}
 use Rattle.fr_base.specs.declared.place.NodeId.TheVariants as node
 use Rattle.fr_log.specs.Step.{answer_of}
 use Rattle.fr_log.specs.declared.ask.LogAsk.{LogAsk}
@@ -12,16 +11,12 @@ use Rattle.fr_epoch.specs.Recoverer.{RecState, Phase, Parent, Plan, Reading, Loc
 use Rattle.fr_epoch.specs.Words.{Word, word_of}
 use Rattle.fr_epoch.specs.Hear.{after_hear}
 use Rattle.fr_epoch.specs.Change.{Change, Stands, LosesReads, Reads, Finds, Locks, LosesLocks, Plans, Copies, Seeds, SeedsAll, Writes, LosesWrites, Chooses, Marks}
-use Rattle.fr_run.specs.Config.{Config, first_epoch}
+use Rattle.fr_run.specs.Config.{Config}
 use Rattle.fr_run.specs.Turn.{Turn, LogTurn, Sent}
 use Rattle.fr_run.specs.Nodes.{rec_at, log_at}
 use Rattle.fr_run.specs.Run.{IsUp, IsTurn, IsRun, StorageMayAsk}
-use Rattle.fr_run.specs.StateLaws.{IsConfig}
 use Rattle.fr_run.specs.Laws.{Laws}
 use Rattle.fr_run.proofs.ByTurn.{rec_by_turn}
-use Rattle.fr_run.proofs.Chosen.{first_is_chosen}
-use Rattle.fr_run.proofs.Parents.{parent_is_planned}
-use Rattle.fr_run_headline.specs.SeededLaws.{IsSeededEpoch, ChosenIsSeeded, WritingIsSeeded}
 use Rattle.fr_run_rounds.specs.Rounds.{WasAnswered}
 
 -- ---- phases

@@ -1,5 +1,5 @@
 -- Tallies of cells: what was heard stays so, an answer is heard, and cells of a majority that are heard end a tally.
-use Rattle.std.proofs.Common.{◌≡◌, ℕ, ◌*◌, ◌<◌, Bool, true, false, cond, not, nat_lt, ◌==◌, ◌&&◌, ◌||◌, List, [], ◌∷◌, ◌++◌, length, Option, None, Some, refl, sym, ◌∙◌, ap, subst, arith}
+use Rattle.std.proofs.Common.{◌≡◌, ℕ, ◌*◌, ◌<◌, Bool, true, false, cond, not, nat_lt, ◌==◌, ◌&&◌, ◌||◌, List, [], ◌∷◌, ◌++◌, length, refl, sym, ◌∙◌, ap, subst, arith}
 use Rattle.std.specs.List.{list_any}
 use Rattle.std.proofs.lemmas.Bool.{eq-eqb, ltb-false}
 use Rattle.std.proofs.lemmas.List.Folds.{list_any-append}
@@ -7,13 +7,10 @@ use Rattle.fr_register.specs.Cell as register
 use Rattle.fr_register.specs.CellState.{CellState}
 use Rattle.fr_register.specs.Chosen.{IsMajority}
 use Rattle.fr_register.specs.Poll.{Poll, ReadState, WriteState}
-use Rattle.fr_register.specs.Tally.{is_majority, progress_from, progress_of, is_refusal_of, is_heard, is_wanted, with_heard, with_refusal, refused_at, hear_read, take_read, hear_write, take_write}
+use Rattle.fr_register.specs.Tally.{progress_of, is_refusal_of, is_heard, is_wanted, with_heard, with_refusal, refused_at, hear_read, take_read, hear_write, take_write}
 use Rattle.fr_register.specs.declared.ask.CellAsk.TheVariants.{Read, Write}
-use Rattle.fr_register.specs.declared.ask.CellTell.{CellTell}
 use Rattle.fr_register.specs.declared.ask.CellTell.TheVariants.{Promise, Written, Refused, TwoValues}
-use Rattle.fr_register.specs.declared.poll.Progress.{Progress}
 use Rattle.fr_register.specs.declared.poll.Progress.TheVariants as poll
-use Rattle.fr_register.specs.declared.poll.Refusal.{Refusal}
 use Rattle.fr_tags.specs.CoverLaw.{DistinctLogsCount}
 use Rattle.fr_tags.specs.Placement.{is_among}
 use Rattle.fr_run_outcomes.proofs.Asked.{read_more, write_more}

@@ -2,7 +2,7 @@ use Rattle.fr_run.specs.Config.{Config}
 use Rattle.fr_run.specs.StateLaws.{IsConfig}
 use Rattle.fr_run_rounds.specs.Ending.{EndsInRounds}
 use Rattle.fr_run_rounds.proofs.Bound.{RoundRules, ends_in_rounds, uncontested_is_chosen}
-use Rattle.fr_run_rounds.proofs.Peeks.{PeekRules}
+use Rattle.fr_run_rounds.proofs.PeekRound.{PeekRules}
 use Rattle.fr_run_rounds.proofs.laws.bound_law.Goals as goal
 
 pub returns : goal.returns

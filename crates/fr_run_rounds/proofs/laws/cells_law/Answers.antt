@@ -1,5 +1,5 @@
-use Rattle.fr_run_rounds.proofs.Reads.{reading_is_one_round}
-use Rattle.fr_run_rounds.proofs.Votes.{writing_is_one_round}
+use Rattle.fr_run_rounds.proofs.ReadRound.{reading_is_one_round}
+use Rattle.fr_run_rounds.proofs.WriteRound.{writing_is_one_round}
 use Rattle.fr_run_rounds.proofs.laws.cells_law.Goals as goal
 
 pub returns : goal.returns

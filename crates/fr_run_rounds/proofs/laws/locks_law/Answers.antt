@@ -1,4 +1,4 @@
-use Rattle.fr_run_rounds.proofs.Locks.{LockRules, locking_is_one_round}
+use Rattle.fr_run_rounds.proofs.LockRound.{LockRules, locking_is_one_round}
 use Rattle.fr_run_rounds.proofs.laws.locks_law.Goals as goal
 
 pub returns : goal.returns

@@ -1,12 +1,10 @@
 -- Writing takes one round.
-use Rattle.std.proofs.Common.{◌≡◌, ℕ, ◌<◌, ◌≤◌, Bool, true, false, nat_lt, List, ◌∷◌, ◌++◌, Option, None, Some, inl, inr, ◌⊎◌, refl, sym, ◌∙◌, ap, subst, arith}
+use Rattle.std.proofs.Common.{◌≡◌, ℕ, ◌<◌, Bool, true, false, nat_lt, List, ◌++◌, Option, None, Some, inl, inr, ◌⊎◌, refl, sym, ◌∙◌, ap, subst, arith}
 use Rattle.std.specs.List.{Contains}
 use Rattle.std.proofs.lemmas.Bool.{lt-ltb, ltb-true, ltb-false, true≢false}
 use Rattle.std.proofs.lemmas.List.Elements.{All-contains}
-use Rattle.fr_base.specs.declared.place.NodeId.{NodeId}
 use Rattle.fr_base.specs.declared.place.NodeId.TheVariants as node
 use Rattle.fr_register.specs.Cell as register
-use Rattle.fr_register.specs.Poll.{WriteState}
 use Rattle.fr_register.specs.Tally.{progress_of, is_heard, hear_write}
 use Rattle.fr_register.specs.declared.ask.CellAsk.TheVariants.{Write}
 use Rattle.fr_register.specs.declared.ask.CellTell.{CellTell}
@@ -17,12 +15,11 @@ use Rattle.fr_tags.specs.CoverLaw.{DistinctLogsCount}
 use Rattle.fr_ask.specs.declared.ask.Ask.TheVariants as ask
 use Rattle.fr_ask.specs.declared.tell.Tell.{Tell}
 use Rattle.fr_ask.specs.declared.tell.Tell.TheVariants as tell
-use Rattle.fr_epoch.specs.Recoverer.{RecState, Plan, Writing, Chosen, Lost, is_written_in}
+use Rattle.fr_epoch.specs.Recoverer.{RecState, Plan, Writing, is_written_in}
 use Rattle.fr_epoch.specs.Words.{Word, OfCell, word_of, heed_in}
 use Rattle.fr_epoch.specs.Hear.{with_write, after_writes, after_heed, after_hear}
 use Rattle.fr_epoch.specs.Asks.{left, writes_of, pending, pending_in, phase_number}
 use Rattle.fr_epoch.specs.Change.{Change, Stands, LosesReads, Reads, Finds, Locks, LosesLocks, Plans, Copies, Seeds, SeedsAll, Writes, LosesWrites, Chooses, Marks}
-use Rattle.fr_run.specs.Config.{Config}
 use Rattle.fr_run.specs.Turn.{Turn}
 use Rattle.fr_run.specs.Nodes.{cell_at, rec_at}
 use Rattle.fr_run.specs.Run.{IsRun}
@@ -32,11 +29,11 @@ use Rattle.fr_run_outcomes.proofs.Asked.{write_more}
 use Rattle.fr_run_outcomes.proofs.Lists.{left_has, map_has}
 use Rattle.fr_run_outcomes.proofs.Counts.{Contains-from_among}
 use Rattle.fr_run_outcomes.proofs.Waiting.{WritesIn, writing_waits}
-use Rattle.fr_run_rounds.specs.Rounds.{WasAnswered, HearsAnswer}
-use Rattle.fr_run_rounds.specs.Ending.{CellsAnswer, WritingIsOneRound}
-use Rattle.fr_run_rounds.proofs.Along.{HoldsOf, holds_at, Keeps, keeps_by, along, through, run_back, IsFrom, from_change, from_keeps, phase_writing}
+use Rattle.fr_run_rounds.specs.Rounds.{WasAnswered}
+use Rattle.fr_run_rounds.specs.Ending.{WritingIsOneRound}
+use Rattle.fr_run_rounds.proofs.Along.{holds_at, Keeps, keeps_by, along, through, run_back, IsFrom, from_change, from_keeps, phase_writing}
 use Rattle.fr_run_rounds.proofs.Tallies.{write_heard, waits_short}
-use Rattle.fr_run_rounds.proofs.Reads.{cell_answer}
+use Rattle.fr_run_rounds.proofs.ReadRound.{cell_answer}
 
 -- ---- a cell that is heard
 
@@ -124,7 +121,7 @@ writing_is_one_round laws counts c h turns config run b answers round told r n a
         go false e = inr (from_change 4 m (word_of (node.Cell i) u) (after_hear m (node.Cell i) u) (laws.rec_change m (node.Cell i) u) (ltb-false (phase_number m.phase) 4 e))
 
     each : (i : ℕ) → i < c.cells → answers (node.Cell i) ≡ true → is_heard n.writes.poll i ≡ true
-    each i below yes = ended i (go (is_heard r.writes.poll i) refl)
+    each i below heeds = ended i (go (is_heard r.writes.poll i) refl)
       where
         start : IsFrom 3 r
         start = (let three : phase_number r.phase ≡ 3 = ap phase_number phase in omega (arith, three))
@@ -135,7 +132,7 @@ writing_is_one_round laws counts c h turns config run b answers round told r n a
             let k = writing_waits laws c h run_start b r at phase in
             holds_at (rec_at c (turns ++ h) b) (VoteDone i)
             (through c b h turns (node.Cell i) (ask.Cell (Write r.ballot (spelling plan.0.state))) run
-            (round r at (node.Cell i) (ask.Cell (Write r.ballot (spelling plan.0.state))) (write_asked r plan.0 c.cells i phase plan.1 k.1 below e) yes) r at
+            (round r at (node.Cell i) (ask.Cell (Write r.ballot (spelling plan.0.state))) (write_asked r plan.0 c.cells i phase plan.1 k.1 below e) heeds) r at
             (IsFrom 3) (VoteDone i) (from_keeps laws c b 3) (keeps i) start
             (λ mid m u run_mid here said answered low. brings i below mid m u run_mid here low answered))
             n there

@@ -1,13 +1,11 @@
 -- Reading takes one round.
-use Rattle.std.proofs.Common.{◌≡◌, ℕ, ◌<◌, ◌≤◌, Bool, true, false, cond, nat_lt, List, [], ◌∷◌, ◌++◌, Option, None, Some, inl, inr, ◌⊎◌, refl, sym, ◌∙◌, ap, subst, arith}
+use Rattle.std.proofs.Common.{◌≡◌, ℕ, ◌<◌, Bool, true, false, cond, nat_lt, List, [], ◌∷◌, ◌++◌, Option, None, Some, inl, inr, ◌⊎◌, refl, sym, ◌∙◌, ap, subst, arith}
 use Rattle.std.specs.Prelude.{IfSome, Result, Ok, Err}
-use Rattle.std.specs.List.{All, Contains, list_any}
+use Rattle.std.specs.List.{Contains}
 use Rattle.std.proofs.lemmas.Bool.{le-ltb, lt-ltb, ltb-true, ltb-false}
 use Rattle.std.proofs.lemmas.List.Elements.{All-contains}
-use Rattle.fr_base.specs.declared.place.NodeId.{NodeId}
 use Rattle.fr_base.specs.declared.place.NodeId.TheVariants as node
 use Rattle.fr_register.specs.Cell as register
-use Rattle.fr_register.specs.Poll.{ReadState}
 use Rattle.fr_register.specs.Tally.{new_read, progress_of, is_heard, hear_read}
 use Rattle.fr_register.specs.declared.ask.CellAsk.{CellAsk}
 use Rattle.fr_register.specs.declared.ask.CellAsk.TheVariants.{Read}
@@ -35,9 +33,9 @@ use Rattle.fr_run.proofs.ByTurn.{rec_by_turn}
 use Rattle.fr_run_outcomes.proofs.Asked.{read_more, read_cells}
 use Rattle.fr_run_outcomes.proofs.Lists.{left_has, map_has}
 use Rattle.fr_run_outcomes.proofs.Counts.{Contains-from_among}
-use Rattle.fr_run_rounds.specs.Rounds.{WasAnswered, HearsAnswer}
-use Rattle.fr_run_rounds.specs.Ending.{CellsAnswer, ReadingIsOneRound}
-use Rattle.fr_run_rounds.proofs.Along.{HoldsOf, holds_at, Keeps, keeps_by, along, through, run_back, IsFrom, from_change, phase_reading}
+use Rattle.fr_run_rounds.specs.Rounds.{WasAnswered}
+use Rattle.fr_run_rounds.specs.Ending.{ReadingIsOneRound}
+use Rattle.fr_run_rounds.proofs.Along.{holds_at, Keeps, keeps_by, along, through, run_back, IsFrom, from_change, phase_reading}
 use Rattle.fr_run_rounds.proofs.Tallies.{read_heard, waits_short}
 
 -- ---- a tally of a recoverer that reads waits
@@ -181,14 +179,14 @@ reading_is_one_round laws counts c h turns config run b answers round told r n a
         go false e = inr (from_change 1 m (word_of (node.Cell i) u) (after_hear m (node.Cell i) u) (laws.rec_change m (node.Cell i) u) (ltb-false (phase_number m.phase) 1 e))
 
     each : (i : ℕ) → i < c.cells → answers (node.Cell i) ≡ true → is_heard n.reads.poll i ≡ true
-    each i below yes = ended i (go (is_heard r.reads.poll i) refl)
+    each i below heeds = ended i (go (is_heard r.reads.poll i) refl)
       where
         go : (x : Bool) → is_heard r.reads.poll i ≡ x → ReadDone i n
         go true e = holds_at (rec_at c (turns ++ h) b) (ReadDone i) (along c b (ReadDone i) (keeps i) turns h run r at (inl e)) n there
         go false e =
             let k = reading_waits laws c h (run_back c turns h run) b r at phase in
             holds_at (rec_at c (turns ++ h) b) (ReadDone i)
-            (through c b h turns (node.Cell i) (ask.Cell (Read r.ballot)) run (round r at (node.Cell i) (ask.Cell (Read r.ballot)) (read_asked r c.cells i phase k.1 below e) yes) r at
+            (through c b h turns (node.Cell i) (ask.Cell (Read r.ballot)) run (round r at (node.Cell i) (ask.Cell (Read r.ballot)) (read_asked r c.cells i phase k.1 below e) heeds) r at
             (IsFrom 0) (ReadDone i) (λ l run_l s from u here said low. omega arith) (keeps i) (omega arith)
             (λ mid m u run_mid here said answered low. brings i below mid m u run_mid here answered))
             n there

@@ -1,43 +1,30 @@
 -- Answers to peeks: a log that replied gives what is asked for, 100 records or all through the end of the copy.
-use Rattle.std.proofs.Common.{◌≡◌, ℕ, ◌+◌, ◌-◌, ◌<◌, ◌≤◌, Bool, true, false, cond, nat_lt, nat_le, map, filter, take, fold, min, length, length-take-le, List, [], ◌∷◌, ◌++◌, Option, None, Some, inl, inr, ◌⊎◌, refl, sym, ◌∙◌, ap, subst, arith}
-use Rattle.std.specs.List.{Contains}
+use Rattle.std.proofs.Common.{◌≡◌, ℕ, ◌<◌, ◌≤◌, Bool, true, false, cond, nat_lt, nat_le, map, filter, take, fold, min, length, length-take-le, List, [], ◌∷◌, Some, inl, inr, ◌⊎◌, refl, sym, ◌∙◌, ap, subst, arith}
 use Rattle.std.proofs.lemmas.Bool.{cases_lt, ltb-true}
-use Rattle.fr_base.specs.declared.place.NodeId.{NodeId}
 use Rattle.fr_base.specs.declared.place.NodeId.TheVariants as node
-use Rattle.fr_tags.specs.Placement.{is_held}
-use Rattle.fr_state.specs.Generations.{LogGeneration}
-use Rattle.fr_log.specs.declared.records.PeekedRecord.{PeekedRecord}
 use Rattle.fr_log.specs.Answer.{IsPeekedAnswer}
-use Rattle.fr_log.specs.Left.{popped_at}
 use Rattle.fr_log.specs.Peeked.{PeekedContent}
-use Rattle.fr_log.specs.LogState.{LogState, durable_of, holds}
-use Rattle.fr_log.specs.Step.{records_above, peek_of, answer_of}
+use Rattle.fr_log.specs.LogState.{LogState, durable_of}
+use Rattle.fr_log.specs.Step.{records_above, peek_of}
 use Rattle.fr_log.specs.declared.ask.LogAsk.{LogAsk}
-use Rattle.fr_log.specs.declared.ask.LogAsk.TheVariants.{Peek}
-use Rattle.fr_log.specs.declared.ask.LogRefusal.TheVariants.{Removed}
-use Rattle.fr_log.specs.declared.ask.LogTell.TheVariants.{Peeked, Refused}
+use Rattle.fr_log.specs.declared.ask.LogTell.TheVariants.{Peeked}
 use Rattle.fr_ask.specs.declared.ask.Ask.TheVariants as ask
-use Rattle.fr_ask.specs.declared.tell.Tell.{Tell}
 use Rattle.fr_ask.specs.declared.tell.Tell.TheVariants as tell
-use Rattle.fr_epoch.specs.Recoverer.{RecState, Parent, Plan}
+use Rattle.fr_epoch.specs.Recoverer.{RecState, Plan}
 use Rattle.fr_run.specs.Config.{Config}
 use Rattle.fr_run.specs.Turn.{Turn, LogTurn, Sent, Told}
 use Rattle.fr_run.specs.Nodes.{rec_at, log_at}
 use Rattle.fr_run.specs.Run.{IsTurn, IsRun, StorageMayAsk}
 use Rattle.fr_run.specs.StateLaws.{IsConfig}
 use Rattle.fr_run.specs.Laws.{Laws}
-use Rattle.fr_run.proofs.Lines.{parent_is}
 use Rattle.fr_run_headline.specs.Issued.{issued}
 use Rattle.fr_run_headline.specs.Contents.{IsTrueTell, PeeksAreTrue, part_records}
-use Rattle.fr_run_headline.specs.LetGo.{CopyIsNeverRemoved}
 use Rattle.fr_run_headline.proofs.Marks.{told_turn}
-use Rattle.fr_run_headline.proofs.Named.{log_named}
 use Rattle.fr_run_headline.proofs.PartLists.{part_of, part_cut}
 use Rattle.fr_run_headline.proofs.PeekLists.{record_of, kept_records}
-use Rattle.fr_run_outcomes.proofs.Copies.{IsSource, IsOfReplies, of_replies, is_source}
-use Rattle.fr_run_outcomes.proofs.Copying.{peeks}
+use Rattle.fr_run_outcomes.proofs.Copies.{is_source}
 use Rattle.fr_run_rounds.proofs.Along.{HoldsOf, holds_at, Keeps, along}
-use Rattle.fr_run_rounds.proofs.Behind.{HasPlanOf, plan_now, plan_keeps, IsPeekOf, IsBehindLog, sent_behind}
+use Rattle.fr_run_rounds.proofs.Behind.{plan_now, plan_keeps, IsPeekOf, IsBehindLog, sent_behind}
 
 -- ---- it is whole
 

@@ -1,7 +1,7 @@
 -- Each round of copying brings 100 records of each tag, or the rest.
-use Rattle.std.proofs.Common.{◌≡◌, ℕ, ◌+◌, ◌<◌, ◌≤◌, Bool, true, false, cond, nat_lt, nat_le, ◌==◌, ◌&&◌, map, filter, min, length, length-append, List, [], ◌∷◌, ◌++◌, Option, None, Some, inl, inr, ◌⊎◌, refl, sym, ◌∙◌, ap, subst, arith}
-use Rattle.std.specs.List.{Contains, list_any, range_with_len}
-use Rattle.std.proofs.lemmas.Bool.{and_parts, cases_lt, eq-eqb, eqb-true, eqb-false, ne_eqb, lt-ltb, ltb-true, ltb-false, true≢false}
+use Rattle.std.proofs.Common.{◌≡◌, ℕ, ◌+◌, ◌<◌, ◌≤◌, Bool, true, false, nat_lt, nat_le, ◌==◌, ◌&&◌, filter, min, length, length-append, List, ◌++◌, None, Some, inl, inr, ◌⊎◌, refl, sym, ◌∙◌, ap, subst, arith}
+use Rattle.std.specs.List.{Contains, list_any}
+use Rattle.std.proofs.lemmas.Bool.{and_parts, cases_lt, eqb-true, eqb-false, lt-ltb, ltb-true, true≢false}
 use Rattle.std.proofs.lemmas.List.{get_or-set_same, get_or-set_other}
 use Rattle.std.proofs.lemmas.List.Folds.{list_all_at}
 use Rattle.fr_base.specs.declared.place.NodeId.{NodeId}
@@ -10,24 +10,20 @@ use Rattle.fr_tags.specs.CoverLaw.{CoveringMeetsEachTag}
 use Rattle.fr_tags.specs.Placement.{covers, is_held}
 use Rattle.fr_log.specs.declared.ask.LogAsk.TheVariants.{Peek}
 use Rattle.fr_log.specs.declared.ask.LogTell.TheVariants.{Peeked}
-use Rattle.fr_log.specs.declared.records.PeekedRecord.{PeekedRecord}
 use Rattle.fr_log.specs.LogState.{durable_of}
 use Rattle.fr_log.specs.Peeked.{PeekedContent}
 use Rattle.fr_log.specs.Step.{peek_of, answer_of}
-use Rattle.fr_ask.specs.declared.ask.Ask.{Ask}
 use Rattle.fr_ask.specs.declared.ask.Ask.TheVariants as ask
 use Rattle.fr_ask.specs.declared.tell.Tell.{Tell}
 use Rattle.fr_ask.specs.declared.tell.Tell.TheVariants as tell
 use Rattle.fr_tail.specs.Tail.{TailState, TagPart, new_part, part_at, is_complete, is_responder, longer, with_part, after_hear as after_peeked}
 use Rattle.fr_epoch.specs.declared.reply.Reply.{Reply}
 use Rattle.fr_epoch.specs.EndTally.{EndState, responders}
-use Rattle.fr_epoch.specs.Recoverer.{RecState, Phase, Parent, Plan, Reading, Locking, Copying, Writing, Chosen, Lost, is_copied_in, is_copied}
-use Rattle.fr_epoch.specs.Words.{Word, OfLog, Given, Nothing, word_of, heed_in, heed_peeked}
-use Rattle.fr_epoch.specs.Hear.{with_tail, after_heed, after_hear}
-use Rattle.fr_epoch.specs.Asks.{peeks_of_tag, peeks_of, seeds_of, pending, pending_in}
+use Rattle.fr_epoch.specs.Recoverer.{RecState, Parent, Plan, Reading, Locking, Copying, Writing, Chosen, is_copied_in, is_copied}
+use Rattle.fr_epoch.specs.Words.{Word, word_of}
+use Rattle.fr_epoch.specs.Hear.{after_hear}
 use Rattle.fr_epoch.specs.Change.{Change, Stands, LosesReads, Reads, Finds, Locks, LosesLocks, Plans, Copies, Seeds, SeedsAll, Writes, LosesWrites, Chooses, Marks}
 use Rattle.fr_epoch.specs.Going.{goes_on}
-use Rattle.fr_epoch.specs.Law.{IsRecoverer}
 use Rattle.fr_epoch.proofs.Goings.{stays, moves}
 use Rattle.fr_run.specs.Config.{Config}
 use Rattle.fr_run.specs.Turn.{Turn, Told}
@@ -41,17 +37,15 @@ use Rattle.fr_run_headline.specs.LetGo.{CopyIsNeverRemoved}
 use Rattle.fr_run_headline.specs.LogLaws.{tally_in, tally}
 use Rattle.fr_run_headline.proofs.Ends.{end_is_of_replies}
 use Rattle.fr_run_headline.proofs.Locks.{of_log}
-use Rattle.fr_run_headline.proofs.Places.{filter_has}
-use Rattle.fr_run_outcomes.proofs.Lists.{in_range, map_has, flat_has}
 use Rattle.fr_run_outcomes.proofs.Counts.{among-from_Contains}
-use Rattle.fr_run_outcomes.proofs.Copies.{IsOfReplies, made_from, begins_same, of_replies, is_source}
+use Rattle.fr_run_outcomes.proofs.Copies.{IsOfReplies, made_from, of_replies, is_source}
 use Rattle.fr_run_outcomes.proofs.Copying.{peek_rises, peek_answered, peek_asked, peek_heard, comes_on}
-use Rattle.fr_run_rounds.specs.Rounds.{WasAnswered, HearsAnswer}
-use Rattle.fr_run_rounds.specs.Ending.{RepliedAnswer, HasCopied, CopyingBringsRecords}
+use Rattle.fr_run_rounds.specs.Rounds.{WasAnswered}
+use Rattle.fr_run_rounds.specs.Ending.{RepliedAnswer, CopyingBringsRecords}
 use Rattle.fr_run_rounds.proofs.Along.{HoldsOf, holds_at, Keeps, along, through, run_back}
-use Rattle.fr_run_rounds.proofs.Behind.{SamePlan, HasPlanOf, plan_now, plan_keeps, parent_keeps, IsPeekOf, IsBehindLog, sent_behind}
+use Rattle.fr_run_rounds.proofs.Behind.{same_plan, HasPlanOf, plan_now, plan_keeps, parent_keeps, IsPeekOf, IsBehindLog, sent_behind}
 use Rattle.fr_run_rounds.proofs.Found.{copying_parent, copying_plan, LogAnswer, log_answer}
-use Rattle.fr_run_rounds.proofs.Answers.{brings_whole}
+use Rattle.fr_run_rounds.proofs.PeekAnswers.{brings_whole}
 
 -- ---- the part of a tag
 
@@ -482,7 +476,7 @@ copying_brings_records ruled c h turns config run b answers round r n at phase t
         (round r at (node.Log p.0.last.epoch k.log) (ask.Log (Peek p.0.last.epoch tag (part_at q.0.tail tag).reached 100)) (peek_asked rules.laws rules.copies c h config run_start b r p.0 q.0 at phase p.1 q.1 tag inside k.log k.replied k.holds short) k.answers_it) r at
         (λ y. IsStill p.0 q.0 tag (part_at q.0.tail tag).reached records y ⊎ HasBrought tag (records + 100) y) (HasBrought tag (records + 100))
         (still_keeps c rules b p.0 q.0 tag (part_at q.0.tail tag).reached records inside) (brought_keeps c rules b tag (records + 100) inside)
-        (inl (record { phase = phase; parent = p.1; plan = plan_now r q.0 q.1; still = record { reached = refl; records = many } }))
+        (inl (record { phase = phase; parent = p.1; plan = record { plan = q.0; is = q.1; same = same_plan q.0 }; still = record { reached = refl; records = many } }))
         (λ mid m u run_mid here told answered so. brings short mid m u run_mid here told answered so))
         n there
       where

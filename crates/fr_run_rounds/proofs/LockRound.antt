@@ -1,22 +1,19 @@
 -- Locking takes one round.
-use Rattle.std.proofs.Common.{◌≡◌, ℕ, ◌+◌, ◌-◌, ◌<◌, ◌≤◌, Bool, true, false, cond, nat_lt, ◌||◌, List, ◌∷◌, ◌++◌, length, Option, None, Some, inl, inr, ◌⊎◌, refl, sym, ◌∙◌, ap, subst, arith}
+use Rattle.std.proofs.Common.{◌≡◌, ℕ, ◌<◌, Bool, true, false, nat_lt, ◌||◌, List, ◌++◌, Some, inl, inr, ◌⊎◌, refl, sym, ◌∙◌, ap, subst, arith}
 use Rattle.std.specs.Prelude.{is_some}
 use Rattle.std.specs.List.{Contains}
-use Rattle.std.proofs.lemmas.Bool.{lt-ltb, ltb-true, ltb-false, true≢false}
-use Rattle.fr_base.specs.declared.place.NodeId.{NodeId}
+use Rattle.std.proofs.lemmas.Bool.{ltb-true, ltb-false, true≢false}
 use Rattle.fr_base.specs.declared.place.NodeId.TheVariants as node
 use Rattle.fr_tags.specs.Placement.{is_among, log_count}
 use Rattle.fr_log.specs.LogState.{durable_of, known_of}
-use Rattle.fr_log.specs.Step.{answer_of}
 use Rattle.fr_log.specs.declared.ask.LogAsk.TheVariants.{Lock}
 use Rattle.fr_log.specs.declared.ask.LogTell.TheVariants.{Locked}
 use Rattle.fr_log.specs.declared.popped.PoppedTag.{PoppedTag}
 use Rattle.fr_ask.specs.declared.ask.Ask.TheVariants as ask
 use Rattle.fr_ask.specs.declared.tell.Tell.{Tell}
 use Rattle.fr_ask.specs.declared.tell.Tell.TheVariants as tell
-use Rattle.fr_epoch.specs.declared.reply.Reply.{Reply}
-use Rattle.fr_epoch.specs.EndTally.{EndState, has_replied, with_reply, is_covered, responders}
-use Rattle.fr_epoch.specs.Recoverer.{RecState, Parent, Locking, Copying, Lost}
+use Rattle.fr_epoch.specs.EndTally.{EndState, has_replied, with_reply, is_covered}
+use Rattle.fr_epoch.specs.Recoverer.{RecState, Parent, Locking}
 use Rattle.fr_epoch.specs.Words.{Word, word_of}
 use Rattle.fr_epoch.specs.Hear.{with_lock, ended, after_hear}
 use Rattle.fr_epoch.specs.Asks.{left, locks_of, pending, pending_in, phase_number}
@@ -25,21 +22,19 @@ use Rattle.fr_run.specs.Config.{Config}
 use Rattle.fr_run.specs.Turn.{Turn}
 use Rattle.fr_run.specs.Nodes.{rec_at, logs_at, log_at}
 use Rattle.fr_run.specs.Run.{IsRun}
-use Rattle.fr_run.specs.StateLaws.{IsConfig}
 use Rattle.fr_run.specs.Laws.{Laws}
 use Rattle.fr_run.proofs.Growth.{IsRecOf, rec_is}
 use Rattle.fr_run_headline.specs.LogLaws.{tally_in, tally}
 use Rattle.fr_run_headline.specs.SeededLaws.{ChosenIsSeeded, WritingIsSeeded}
 use Rattle.fr_run_headline.proofs.Named.{log_named}
-use Rattle.fr_run_outcomes.specs.Locking.{HasPlan}
 use Rattle.fr_run_outcomes.proofs.Lists.{left_has, map_has}
 use Rattle.fr_run_outcomes.proofs.Asked.{replied_more}
-use Rattle.fr_run_outcomes.proofs.Counts.{count_by-range, count_short, log_count_either, among_map, among-from_Contains}
-use Rattle.fr_run_outcomes.proofs.LockAnswers.{IsLostSo, ended_so, locks, lock_heard, reply_counts, or_true}
+use Rattle.fr_run_outcomes.proofs.Counts.{count_by-range, count_short, among-from_Contains}
+use Rattle.fr_run_outcomes.proofs.LockAnswers.{ended_so, locks, lock_heard, reply_counts, or_true}
 use Rattle.fr_run_outcomes.proofs.Locking.{parent_seeded, all_cover}
 use Rattle.fr_run_outcomes.proofs.Waiting.{locking_waits}
-use Rattle.fr_run_rounds.specs.Rounds.{WasAnswered, HearsAnswer}
-use Rattle.fr_run_rounds.specs.Ending.{silent_logs, FewAreSilent, LockingIsOneRound}
+use Rattle.fr_run_rounds.specs.Rounds.{WasAnswered}
+use Rattle.fr_run_rounds.specs.Ending.{silent_logs, LockingIsOneRound}
 use Rattle.fr_run_rounds.proofs.Along.{HoldsOf, holds_at, Keeps, along, both_keep, through, run_back, IsFrom, from_change, from_keeps, phase_locking}
 use Rattle.fr_run_rounds.proofs.Behind.{parent_keeps, IsBehindLog, sent_behind}
 use Rattle.fr_run_rounds.proofs.Found.{locking_parent, LogAnswer, log_answer}
@@ -180,7 +175,7 @@ locking_is_one_round rules c h turns config run b answers round r n at phase the
         go false e = from_two i (after_hear m (node.Log p.0.last.epoch i) u) (from_change 2 m (word_of (node.Log p.0.last.epoch i) u) (after_hear m (node.Log p.0.last.epoch i) u) (laws.rec_change m (node.Log p.0.last.epoch i) u) (ltb-false (phase_number m.phase) 2 e))
 
     each : (i : ℕ) → i < p.0.last.m → answers (node.Log p.0.last.epoch i) ≡ true → has_replied (tally n) i ≡ true
-    each i below yes = ended_now i (go (has_replied t.0 i) refl)
+    each i below heeds = ended_now i (go (has_replied t.0 i) refl)
       where
         t : (e : EndState) × (r.end ≡ Some e) × (e.m ≡ p.0.last.m) × (e.k ≡ p.0.last.k)
         t = tallied h run_start r at p.1
@@ -193,7 +188,7 @@ locking_is_one_round rules c h turns config run b answers round r n at phase the
         go false e =
             holds_at (rec_at c (turns ++ h) b) (ReplyDone i)
             (through c b h turns (node.Log p.0.last.epoch i) (ask.Log (Lock p.0.last.epoch)) run
-            (round r at (node.Log p.0.last.epoch i) (ask.Log (Lock p.0.last.epoch)) (lock_asked r p.0 t.0 i phase p.1 t.1 below e) yes) r at
+            (round r at (node.Log p.0.last.epoch i) (ask.Log (Lock p.0.last.epoch)) (lock_asked r p.0 t.0 i phase p.1 t.1 below e) heeds) r at
             (λ x. IsFrom 1 x × (x.parent ≡ Some p.0)) (ReplyDone i) (both_keep c b (IsFrom 1) (λ x. x.parent ≡ Some p.0) (from_keeps rules.laws c b 1) (parent_keeps rules.laws c b p.0)) (done_keeps rules.laws c b i) (start, p.1)
             (λ mid m u run_mid here said answered k. brings i below mid m u run_mid here k.0 k.1 answered))
             n there

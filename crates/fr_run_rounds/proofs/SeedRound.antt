@@ -1,9 +1,8 @@
 -- Seeding takes one round.
-use Rattle.std.proofs.Common.{◌≡◌, ℕ, ◌<◌, ◌≤◌, Bool, true, false, cond, not, nat_lt, ◌==◌, ◌&&◌, ◌||◌, List, [], ◌∷◌, ◌++◌, length, Option, None, Some, inl, inr, ◌⊎◌, refl, sym, ◌∙◌, ap, subst, arith}
+use Rattle.std.proofs.Common.{◌≡◌, ℕ, ◌<◌, Bool, true, false, cond, not, nat_lt, ◌==◌, ◌&&◌, ◌||◌, List, [], ◌∷◌, ◌++◌, length, Some, inl, inr, ◌⊎◌, refl, sym, ◌∙◌, ap, subst, arith}
 use Rattle.std.specs.List.{Contains, range_with_len}
 use Rattle.std.proofs.lemmas.Bool.{eq-eqb, lt-ltb, ltb-true, ltb-false}
 use Rattle.std.proofs.lemmas.List.Folds.{list_any-append}
-use Rattle.fr_base.specs.declared.place.NodeId.{NodeId}
 use Rattle.fr_base.specs.declared.place.NodeId.TheVariants as node
 use Rattle.fr_log.specs.Step.{answer_of}
 use Rattle.fr_log.specs.declared.ask.LogAsk.TheVariants.{Seed}
@@ -17,7 +16,7 @@ use Rattle.fr_epoch.specs.Words.{Word, OfLog, IsSeeded, Nothing, word_of, is_in,
 use Rattle.fr_epoch.specs.Hear.{with_seeded, after_heed, after_hear}
 use Rattle.fr_epoch.specs.Asks.{left, seeds_of, peeks_of, pending, pending_in, phase_number}
 use Rattle.fr_epoch.specs.Change.{Change, Stands, LosesReads, Reads, Finds, Locks, LosesLocks, Plans, Copies, Seeds, SeedsAll, Writes, LosesWrites, Chooses, Marks}
-use Rattle.fr_epoch.specs.Law.{RecGrows, AccountsFor}
+use Rattle.fr_epoch.specs.Law.{RecGrows}
 use Rattle.fr_run.specs.AskLaws.{SenderAccounts}
 use Rattle.fr_run.specs.Config.{Config}
 use Rattle.fr_run.specs.Turn.{Turn}
@@ -32,8 +31,8 @@ use Rattle.fr_run_outcomes.proofs.Counts.{full_is_long}
 use Rattle.fr_run_outcomes.proofs.Waiting.{copying_lacks}
 use Rattle.fr_run_outcomes.proofs.Seeding.{seed_answered}
 use Rattle.fr_run_rounds.specs.Rounds.{WasAnswered, HearsAnswer}
-use Rattle.fr_run_rounds.specs.Ending.{NewAnswer, SeedingIsOneRound}
-use Rattle.fr_run_rounds.proofs.Along.{HoldsOf, holds_at, Keeps, keeps_by, along, both_keep, through, run_back, IsFrom, from_change, from_keeps, phase_copying}
+use Rattle.fr_run_rounds.specs.Ending.{SeedingIsOneRound}
+use Rattle.fr_run_rounds.proofs.Along.{holds_at, Keeps, keeps_by, along, both_keep, through, run_back, IsFrom, from_change, from_keeps, phase_copying}
 use Rattle.fr_run_rounds.proofs.Found.{copying_plan, LogAnswer, log_answer}
 
 -- ---- a log that is seeded
@@ -169,8 +168,8 @@ seeding_is_one_round laws c h turns config run b answers round r n at phase copi
     each : (i : ℕ) → i < q.0.generation.m → is_in n.seeded i ≡ true
     each i below = ended i (go (is_in r.seeded i) refl)
       where
-        yes : answers (node.Log r.ballot i) ≡ true
-        yes = subst (λ x. answers (node.Log x i) ≡ true) (ballot (turns ++ h) run n there ∙ sym (ballot h run_start r at)) (told q.0 plan_last i below)
+        heeds : answers (node.Log r.ballot i) ≡ true
+        heeds = subst (λ x. answers (node.Log x i) ≡ true) (ballot (turns ++ h) run n there ∙ sym (ballot h run_start r at)) (told q.0 plan_last i below)
 
         start : IsFrom 2 r
         start = (let two : phase_number r.phase ≡ 2 = ap phase_number phase in omega (arith, two))
@@ -178,7 +177,7 @@ seeding_is_one_round laws c h turns config run b answers round r n at phase copi
         heard : is_in r.seeded i ≡ false → HearsAnswer c h turns b (node.Log b i) (ask.Log (Seed (seed_for q.0.tail b q.0.generation.m q.0.generation.k i)))
         heard e =
             subst (λ x. HearsAnswer c h turns b (node.Log x i) (ask.Log (Seed (seed_for q.0.tail x q.0.generation.m q.0.generation.k i)))) (ballot h run_start r at)
-            (round r at (node.Log r.ballot i) (ask.Log (Seed (seed_for q.0.tail r.ballot q.0.generation.m q.0.generation.k i))) (seed_asked r q.0 i phase q.1 whole below e) yes)
+            (round r at (node.Log r.ballot i) (ask.Log (Seed (seed_for q.0.tail r.ballot q.0.generation.m q.0.generation.k i))) (seed_asked r q.0 i phase q.1 whole below e) heeds)
 
         go : (x : Bool) → is_in r.seeded i ≡ x → SeedDone i n
         go true e = holds_at (rec_at c (turns ++ h) b) (SeedDone i) (along c b (SeedDone i) (keeps i) turns h run r at (inl e)) n there
