@@ -4,7 +4,6 @@ use Rattle.std.specs.Prelude.{is_some}
 use Rattle.std.specs.List.{Contains}
 use Rattle.std.proofs.lemmas.Bool.{cases_lt, eq-eqb, ltb-true, ltb-false}
 use Rattle.std.proofs.lemmas.List.Elements.{Contains-append_left}
-use Rattle.fr_base.specs.Shape.{ShapeContent}
 use Rattle.fr_base.specs.declared.place.NodeId.{NodeId}
 use Rattle.fr_base.specs.declared.place.NodeId.TheVariants as node
 use Rattle.fr_log.specs.declared.popped.PoppedTag.{PoppedTag}
@@ -12,13 +11,13 @@ use Rattle.fr_state.specs.Generations.{LogGeneration}
 use Rattle.fr_tail.specs.Tail.{TagPart, new_part, part_at}
 use Rattle.fr_epoch.specs.declared.reply.Reply.{Reply}
 use Rattle.fr_epoch.specs.EndTally.{EndState, counts, with_reply}
-use Rattle.fr_epoch.specs.Recoverer.{RecState, Phase, Parent, Plan, Reading, Locking, Copying, Writing, Chosen, Lost, new_recoverer, is_copied_in, is_copied}
+use Rattle.fr_epoch.specs.Recoverer.{RecState, Phase, Parent, Plan, Reading, Locking, Copying, Writing, Chosen, Lost, is_copied_in, is_copied}
 use Rattle.fr_epoch.specs.Words.{Word, word_of}
 use Rattle.fr_epoch.specs.Hear.{after_hear}
 use Rattle.fr_epoch.specs.Asks.{phase_number}
 use Rattle.fr_epoch.specs.Change.{Change, Stands, LosesReads, Reads, Finds, Locks, LosesLocks, Plans, Copies, Seeds, SeedsAll, Writes, LosesWrites, Chooses, Marks, IsReplied}
 use Rattle.fr_run.specs.Config.{Config}
-use Rattle.fr_run.specs.Turn.{Turn, Sending, Begun}
+use Rattle.fr_run.specs.Turn.{Turn}
 use Rattle.fr_run.specs.Nodes.{rec_at}
 use Rattle.fr_run.specs.Run.{IsRun}
 use Rattle.fr_run.specs.StateLaws.{IsConfig}
@@ -26,9 +25,8 @@ use Rattle.fr_run.specs.Laws.{Laws}
 use Rattle.fr_run.proofs.Growth.{rec_is}
 use Rattle.fr_run_headline.specs.LogLaws.{tally_in, tally}
 use Rattle.fr_run_outcomes.proofs.Copying.{all_true}
-use Rattle.fr_run_outcomes.specs.Uncontested.{UncontestedHasNoRoom}
 use Rattle.fr_run_rounds.specs.Rounds.{IsRound, turns_of, AreRounds}
-use Rattle.fr_run_rounds.specs.Ending.{EnoughAnswer, ReadingIsOneRound, LockingIsOneRound, HasCopied, CopyingBringsRecords, SeedingIsOneRound, WritingIsOneRound, IsOver, CopiesFewer, EndsInRounds, UncontestedIsChosen}
+use Rattle.fr_run_rounds.specs.Ending.{EnoughAnswer, ReadingIsOneRound, LockingIsOneRound, HasCopied, CopyingBringsRecords, SeedingIsOneRound, WritingIsOneRound, IsOver, CopiesFewer, EndsInRounds}
 use Rattle.fr_run_rounds.proofs.Along.{HoldsOf, holds_at, Keeps, along, run_back, IsFrom, from_change, from_keeps, phase_reading, phase_locking, phase_copying, phase_writing}
 use Rattle.fr_run_rounds.proofs.Behind.{HasPlanOf, plan_now, plan_keeps, parent_keeps}
 use Rattle.fr_run_rounds.proofs.Found.{copying_parent, copying_plan}
@@ -340,26 +338,13 @@ some_of None e = absurd (cc)
 some_of (Some r) e = (r, refl)
 
 pub ends_in_rounds : RoundRules → EndsInRounds
-ends_in_rounds rules c h rounds config run b answers are begun r at enough peeks fewer many =
-    let start = some_of (rec_at c h b) begun in
-    over r (after_writes rules c config answers b h peeks rounds r (record { begun = start.0; start = start.1; run = run; are = are; at = at; enough = enough }) fewer many)
-
--- ---- without a greater ballot
-
-begun_there : Laws → (c : Config) (h more : List Turn) (b : ℕ) (shape : Option ShapeContent) (asks : List Sending) → IsRun c (more ++ Begun b shape asks ∷ h) → is_some (rec_at c (more ++ Begun b shape asks ∷ h) b) ≡ true
-begun_there laws c h more b shape asks run =
-    let k = along c b (IsFrom 0) (from_keeps laws c b 0) more (Begun b shape asks ∷ h) run (new_recoverer b c.cells c.begins shape) (first c h b shape asks) (omega arith) in
-    ap is_some k.is
-  where
-    first : (c : Config) (h : List Turn) (b : ℕ) (shape : Option ShapeContent) (asks : List Sending) → rec_at c (Begun b shape asks ∷ h) b ≡ Some (new_recoverer b c.cells c.begins shape)
-    first c h b shape asks = ap (λ x. cond x (Some (new_recoverer b c.cells c.begins shape)) (rec_at c h b)) (eq-eqb b b refl)
-
-pub uncontested_is_chosen : Laws → UncontestedHasNoRoom → EndsInRounds → UncontestedIsChosen
-uncontested_is_chosen laws room ends c h more rounds b shape asks config run low low_asks answers are r at enough peeks fewer many =
-    elim (ends c (more ++ Begun b shape asks ∷ h) rounds config run b answers are (begun_there laws c h more b shape asks (run_back c (turns_of rounds) (more ++ Begun b shape asks ∷ h) run)) r at enough peeks fewer many) [
-      | inl chosen ↦ inl chosen
-      | inr lost ↦ inr (room c h (turns_of rounds ++ more) b shape asks config (subst (IsRun c) same run) low low_asks r lost.0 (subst (λ l. rec_at c l b ≡ Some r) same at) lost.1)
-    ]
-  where
-    same : turns_of rounds ++ (more ++ Begun b shape asks ∷ h) ≡ (turns_of rounds ++ more) ++ Begun b shape asks ∷ h
-    same = sym (append_assoc (turns_of rounds) more (Begun b shape asks ∷ h))
+ends_in_rounds rules c h later config run b r at k =
+    let start = some_of (rec_at c h b) k.begun in
+    over r (after_writes rules c config k.answers b h k.peeks k.rounds r (record {
+      begun = start.0;
+      start = start.1;
+      run = subst (IsRun c) (sym k.is) run;
+      are = k.are;
+      at = subst (λ l. rec_at c l b ≡ Some r) (sym k.is) at;
+      enough = k.enough;
+    }) k.fewer k.many)

@@ -9,4 +9,5 @@ pub mod SeedRound
 pub mod PeekAnswers
 pub mod PeekRound
 pub mod Bound
+pub mod RoomLeft
 pub mod Coming

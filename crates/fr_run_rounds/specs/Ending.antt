@@ -16,7 +16,7 @@ use Rattle.fr_run.specs.Nodes.{cell_at, rec_at}
 use Rattle.fr_run.specs.Run.{IsRun}
 use Rattle.fr_run.specs.StateLaws.{IsConfig}
 use Rattle.fr_run_headline.specs.LogLaws.{tally}
-use Rattle.fr_run_outcomes.specs.Locking.{HasNoRoom}
+use Rattle.fr_run_outcomes.specs.Locking.{HasRoomIn, HasNoRoom}
 use Rattle.fr_run_outcomes.specs.Uncontested.{AsksNoGreater}
 use Rattle.fr_run_rounds.specs.Rounds.{IsRound, turns_of, AreRounds}
 
@@ -99,18 +99,44 @@ IsOver r = (r.phase ≡ Chosen) ⊎ ((why : LostWhy) × (r.phase ≡ Lost why))
 abbrev pub CopiesFewer : Config → RecState → ℕ → Type 0
 CopiesFewer c r records = (q : Plan) → r.plan ≡ Some q → (tag : ℕ) → tag < length c.begins → length (part_at q.tail tag).records < records
 
--- a recoverer is over after four rounds and one for each 100 records of a tag that it copies, begun or not, if enough nodes answer
-abbrev pub EndsInRounds : Type 0
-EndsInRounds =
-    (c : Config) (h : List Turn) (rounds : List (List Turn)) → IsConfig c → IsRun c (turns_of rounds ++ h) → (b : ℕ) (answers : NodeId → Bool) → AreRounds c answers b h rounds
-    → IsSome (rec_at c h b) → (r : RecState) → rec_at c (turns_of rounds ++ h) b ≡ Some r → EnoughAnswer c answers r
-    → (peeks : ℕ) → CopiesFewer c r (100 * peeks) → 4 + peeks ≤ length rounds → IsOver r
+-- a recoverer that had begun had rounds enough since: four, and as many as hundreds of records that are more than it copies of any tag
+pub record HadRounds (c : Config) (h later : List Turn) (b : ℕ) (r : RecState) : Type 0 where
+  pub begun : IsSome (rec_at c h b)
+  pub rounds : List (List Turn)
+  pub is : turns_of rounds ++ h ≡ later
+  pub answers : NodeId → Bool
+  pub are : AreRounds c answers b h rounds
+  pub enough : EnoughAnswer c answers r
+  pub peeks : ℕ
+  pub fewer : CopiesFewer c r (100 * peeks)
+  pub many : 4 + peeks ≤ length rounds
 
--- if no cell promised more than its ballot when that began, and none was asked for a greater one since, it is then chosen, or has
--- found that there is no room
+-- then it is over
+abbrev pub EndsInRounds : Type 0
+EndsInRounds = (c : Config) (h later : List Turn) → IsConfig c → IsRun c later → (b : ℕ) (r : RecState) → rec_at c later b ≡ Some r → HadRounds c h later b r → IsOver r
+
+-- no cell promised more than a ballot when that began, and none was asked for a greater one since
+pub record IsUncontested (c : Config) (later : List Turn) (b : ℕ) : Type 0 where
+  pub before : List Turn
+  pub shape : Option ShapeContent
+  pub asks : List Sending
+  pub since : List Turn
+  pub is : since ++ Begun b shape asks ∷ before ≡ later
+  pub low : (i : ℕ) → i < c.cells → (cell_at c before i).promised ≤ b
+  pub none : All (AsksNoGreater b) since
+
+-- then it is chosen, or has found that there is no room
 abbrev pub UncontestedIsChosen : Type 0
 UncontestedIsChosen =
-    (c : Config) (h more : List Turn) (rounds : List (List Turn)) (b : ℕ) (shape : Option ShapeContent) (asks : List Sending)
-    → IsConfig c → IsRun c (turns_of rounds ++ (more ++ Begun b shape asks ∷ h)) → ((i : ℕ) → i < c.cells → (cell_at c h i).promised ≤ b) → All (AsksNoGreater b) (turns_of rounds ++ more)
-    → (answers : NodeId → Bool) → AreRounds c answers b (more ++ Begun b shape asks ∷ h) rounds → (r : RecState) → rec_at c (turns_of rounds ++ (more ++ Begun b shape asks ∷ h)) b ≡ Some r
-    → EnoughAnswer c answers r → (peeks : ℕ) → CopiesFewer c r (100 * peeks) → 4 + peeks ≤ length rounds → (r.phase ≡ Chosen) ⊎ HasNoRoom r
+    (c : Config) (h later : List Turn) → IsConfig c → IsRun c later → (b : ℕ) (r : RecState) → rec_at c later b ≡ Some r → HadRounds c h later b r → IsUncontested c later b
+    → (r.phase ≡ Chosen) ⊎ HasNoRoom r
+
+-- after the state that a recoverer read there is room
+abbrev pub HasRoomAfter : Config → List Turn → RecState → Type 0
+HasRoomAfter c later r = (p : Parent) → r.parent ≡ Some p → HasRoomIn c later p.state p.last
+
+-- then it is chosen
+abbrev pub RoomIsChosen : Type 0
+RoomIsChosen =
+    (c : Config) (h later : List Turn) → IsConfig c → IsRun c later → (b : ℕ) (r : RecState) → rec_at c later b ≡ Some r → HadRounds c h later b r → IsUncontested c later b
+    → HasRoomAfter c later r → r.phase ≡ Chosen

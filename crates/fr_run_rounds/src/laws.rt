@@ -1,7 +1,7 @@
 //! Laws of recoveries that end. A round of a recoverer is any turns in which it hears an answer to each ask whose answer
 //! it wanted when they began, from each node that answers. Whatever else may happen in them.
 ghost use Rattle.fr_run_rounds.specs.Ending.{CopyingBringsRecords, LockingIsOneRound, ReadingIsOneRound, SeedingIsOneRound, WritingIsOneRound};
-ghost use Rattle.fr_run_rounds.specs.Ending.{EndsInRounds, UncontestedIsChosen};
+ghost use Rattle.fr_run_rounds.specs.Ending.{EndsInRounds, RoomIsChosen, UncontestedIsChosen};
 ghost use Rattle.fr_run_rounds.specs.Rounds.{RoundCanCome};
 
 use fr_run::laws::node_laws;
@@ -53,10 +53,12 @@ pub fn copies_law()
 /// A recoverer comes to an end within 4 + n rounds, if it copies fewer than 100 n records of each tag, and enough nodes
 /// answer: the cells of a majority; of the generation that it ends all logs but fewer than k, and each that replied to its
 /// lock; and each log of its own generation. It is then chosen, or lost. If no cell promised more than its ballot when that
-/// began, and none was asked for a greater one since, it is chosen, or has found that there is no room.
+/// began, and none was asked for a greater one since, it is chosen, or has found that there is no room. So it is chosen, if
+/// there is room after the state that it read: fewer than 64 generations, and a version above what the last one's logs hold.
 pub fn bound_law()
     ensures ended { EndsInRounds }
     ensures chosen { UncontestedIsChosen }
+    ensures room { RoomIsChosen }
 {
     node_laws();
     contents_law();

@@ -1,12 +1,13 @@
 use Rattle.fr_run.specs.Config.{Config}
 use Rattle.fr_run.specs.StateLaws.{IsConfig}
-use Rattle.fr_run_rounds.specs.Ending.{EndsInRounds}
-use Rattle.fr_run_rounds.proofs.Bound.{RoundRules, ends_in_rounds, uncontested_is_chosen}
+use Rattle.fr_run_rounds.specs.Ending.{EndsInRounds, UncontestedIsChosen}
+use Rattle.fr_run_rounds.proofs.Bound.{RoundRules, ends_in_rounds}
 use Rattle.fr_run_rounds.proofs.PeekRound.{PeekRules}
+use Rattle.fr_run_rounds.proofs.RoomLeft.{uncontested_is_chosen, room_is_chosen}
 use Rattle.fr_run_rounds.proofs.laws.bound_law.Goals as goal
 
 pub returns : goal.returns
-returns c = record { ended = ended; chosen = uncontested_is_chosen c.node_laws.ensures c.uncontested_law.ensures ended }
+returns c = record { ended = ended; chosen = chosen; room = room_is_chosen c.node_laws.ensures c.cover_law.ensures.covering chosen }
   where
     peeks : (x : Config) → IsConfig x → PeekRules x
     peeks x config = record {
@@ -31,3 +32,6 @@ returns c = record { ended = ended; chosen = uncontested_is_chosen c.node_laws.e
 
     ended : EndsInRounds
     ended = ends_in_rounds rules
+
+    chosen : UncontestedIsChosen
+    chosen = uncontested_is_chosen c.uncontested_law.ensures ended
