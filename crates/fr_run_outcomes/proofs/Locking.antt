@@ -90,7 +90,7 @@ parent_seeded laws chosen writing c h config run b r p at parent = elim (parent_
   | inr k ↦ writing c h config run p.last.epoch k.recoverer k.at k.written
 ]
 
-parent_logs : Laws → ChosenIsSeeded → WritingIsSeeded → (c : Config) (h : List Turn) → IsConfig c → IsRun c h → (b : ℕ) (r : RecState) (p : Parent) → rec_at c h b ≡ Some r → r.parent ≡ Some p → (i : ℕ) → i < p.last.m
+pub parent_logs : Laws → ChosenIsSeeded → WritingIsSeeded → (c : Config) (h : List Turn) → IsConfig c → IsRun c h → (b : ℕ) (r : RecState) (p : Parent) → rec_at c h b ≡ Some r → r.parent ≡ Some p → (i : ℕ) → i < p.last.m
     → (i < logs_at c h p.last.epoch) × (is_some (log_at c h p.last.epoch i).seed ≡ true)
 parent_logs laws chosen writing c h config run b r p at parent i below =
     let epoch = parent_seeded laws chosen writing c h config run b r p at parent in

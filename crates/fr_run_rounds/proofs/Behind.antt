@@ -127,7 +127,7 @@ IsBehind to a r = Unit {0}
 abbrev pub Behind : RecState → NodeId × Ask → Type 0
 Behind r s = IsBehind s.0 s.1 r
 
-filter_within : (f : ℕ → Bool) (xs : List ℕ) (i : ℕ) → Contains (filter f xs) i → Contains xs i
+pub filter_within : (f : ℕ → Bool) (xs : List ℕ) (i : ℕ) → Contains (filter f xs) i → Contains xs i
 filter_within f [] i k = k
 filter_within f (x ∷ xs) i k = go (f x) k (filter_within f xs i)
   where

@@ -40,7 +40,7 @@ use Rattle.fr_run_rounds.proofs.Tallies.{read_heard, waits_short}
 
 -- ---- a tally of a recoverer that reads waits
 
-abbrev ReadsIn : ℕ → RecState → Type 0
+abbrev pub ReadsIn : ℕ → RecState → Type 0
 ReadsIn cells r = r.phase ≡ Reading → (progress_of r.reads.poll ≡ poll.Waiting) × (r.reads.poll.cells ≡ cells)
 
 last_reads : (r : RecState) (s : CoordinatedState) (o : Option LogGeneration) → (with_last r s o).phase ≡ Reading → ⊥
@@ -87,7 +87,7 @@ have_read laws c (t ∷ h) run b =
     rec_by_turn c h t run.0 b (λ o. IfSome o (ReadsIn c.cells)) (have_read laws c h run.1 b) (λ shape none may is e. (new_waits c.cells b, refl))
     (λ r from u at told. change_reads c.cells r (word_of from u) (after_hear r from u) (laws.rec_change r from u) refl (subst (λ o. IfSome o (ReadsIn c.cells)) at (have_read laws c h run.1 b)))
 
-reading_waits : Laws → (c : Config) (h : List Turn) → IsRun c h → (b : ℕ) (r : RecState) → rec_at c h b ≡ Some r → ReadsIn c.cells r
+pub reading_waits : Laws → (c : Config) (h : List Turn) → IsRun c h → (b : ℕ) (r : RecState) → rec_at c h b ≡ Some r → ReadsIn c.cells r
 reading_waits laws c h run b r at = subst (λ o. IfSome o (ReadsIn c.cells)) at (have_read laws c h run b)
 
 -- ---- a cell that is heard

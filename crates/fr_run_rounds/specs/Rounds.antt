@@ -1,16 +1,19 @@
 -- Rounds: turns in which a recoverer hears an answer to each ask whose answer it wanted when they began.
-use Rattle.std.specs.Prelude.{◌≡◌, ◌⊎◌, ℕ, Bool, true, List, [], ◌∷◌, ◌++◌, Some, Contains}
+use Rattle.std.specs.Prelude.{◌≡◌, ◌⊎◌, ℕ, Bool, true, List, [], ◌∷◌, ◌++◌, length, Some, All, Contains}
 use Rattle.fr_base.specs.declared.place.NodeId.{NodeId}
+use Rattle.fr_base.specs.declared.place.NodeId.TheVariants as node
 use Rattle.fr_ask.specs.declared.ask.Ask.{Ask}
 use Rattle.fr_ask.specs.declared.tell.Tell.{Tell}
 use Rattle.fr_epoch.specs.Recoverer.{RecState}
 use Rattle.fr_epoch.specs.Asks.{pending}
 use Rattle.fr_run.specs.Config.{Config}
-use Rattle.fr_run.specs.Turn.{Turn, Sending, RecHeard}
+use Rattle.fr_run.specs.Turn.{Turn, Sending, RecHeard, Gone}
 use Rattle.fr_run.specs.Nodes.{rec_at}
 use Rattle.fr_run.specs.Run.{IsUp, IsRun}
-use Rattle.fr_base.specs.declared.place.NodeId.TheVariants as node
+use Rattle.fr_run.specs.StateLaws.{IsConfig}
+use Rattle.fr_run_outcomes.specs.Going.{GoesOn}
 use Rattle.fr_run_outcomes.specs.Pending.{IsAnswerOf}
+use Rattle.fr_run_outcomes.specs.Uncontested.{AsksNoGreater}
 
 -- a recoverer's ask came to a node in some turn, and this is what the node told
 abbrev pub WasAnswered : Config → List Turn → ℕ → NodeId → Ask → Tell → Type 0
@@ -42,14 +45,18 @@ abbrev pub AreRounds : Config → (NodeId → Bool) → ℕ → List Turn → Li
 AreRounds c answers b h [] = Unit {0}
 AreRounds c answers b h (round ∷ rounds) = IsRound c answers b (turns_of rounds ++ h) round × AreRounds c answers b h rounds
 
--- a run goes on by one round
-pub record HasRound (c : Config) (answers : NodeId → Bool) (b : ℕ) (h : List Turn) : Type 0 where
-  pub turns : List Turn
-  pub is_run : IsRun c (turns ++ h)
-  pub round : IsRound c answers b h turns
+-- a run goes on by so many rounds, of own turns of the ballot, in which no cell is asked for a greater one
+pub record HasRounds (c : Config) (answers : NodeId → Bool) (b : ℕ) (h : List Turn) (number : ℕ) : Type 0 where
+  pub later : List Turn
+  pub goes_on : GoesOn c b h later
+  pub rounds : List (List Turn)
+  pub is : turns_of rounds ++ h ≡ later
+  pub many : length rounds ≡ number
+  pub are : AreRounds c answers b h rounds
+  pub none : All (AsksNoGreater b) (turns_of rounds)
 
--- so does each one in which a recoverer is up, and each node that answers and whose answer it wants
-abbrev pub RoundCanCome : Type 0
-RoundCanCome =
-    (c : Config) (h : List Turn) → IsRun c h → (b : ℕ) (answers : NodeId → Bool) (r : RecState) → rec_at c h b ≡ Some r → IsUp c h (node.Recoverer b)
-    → ((to : NodeId) (a : Ask) → Contains (pending r) (to, a) → answers to ≡ true → IsUp c h to) → HasRound c answers b h
+-- so does each one in which a recoverer is up, and no node that answers is gone
+abbrev pub RoundsCanCome : Type 0
+RoundsCanCome =
+    (c : Config) (h : List Turn) → IsConfig c → IsRun c h → (b : ℕ) (answers : NodeId → Bool) → IsUp c h (node.Recoverer b) → ((who : NodeId) → answers who ≡ true → Contains h (Gone who) → ⊥)
+    → (number : ℕ) → HasRounds c answers b h number

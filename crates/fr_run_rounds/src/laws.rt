@@ -2,7 +2,7 @@
 //! it wanted when they began, from each node that answers. Whatever else may happen in them.
 ghost use Rattle.fr_run_rounds.specs.Ending.{CopyingBringsRecords, LockingIsOneRound, ReadingIsOneRound, SeedingIsOneRound, WritingIsOneRound};
 ghost use Rattle.fr_run_rounds.specs.Ending.{EndsInRounds, RoomIsChosen, UncontestedIsChosen};
-ghost use Rattle.fr_run_rounds.specs.Rounds.{RoundCanCome};
+ghost use Rattle.fr_run_rounds.specs.Rounds.{RoundsCanCome};
 
 use fr_run::laws::node_laws;
 use fr_run_headline::contents::contents_law;
@@ -11,12 +11,13 @@ use fr_run_headline::versions::seeded_law;
 use fr_run_outcomes::progress::{pending_law, uncontested_law};
 use fr_tags::laws::cover_law;
 
-/// A round can come, from every moment of every run, if the recoverer is up, and each node that answers and whose answer
-/// it wants.
+/// So many rounds can come, from every moment of every run, if the recoverer is up and no node that answers is gone: by
+/// own turns of its ballot, in which no cell is asked for a greater one.
 pub fn round_law()
-    ensures { RoundCanCome }
+    ensures { RoundsCanCome }
 {
     node_laws();
+    seeded_law();
     pending_law();
 }
 
