@@ -30,7 +30,7 @@ use Rattle.fr_run_rounds.specs.Ending.{EnoughAnswer, ReadingIsOneRound, LockingI
 use Rattle.fr_run_rounds.proofs.Along.{HoldsOf, holds_at, Keeps, along, run_back, IsFrom, from_change, from_keeps, phase_reading, phase_locking, phase_copying, phase_writing}
 use Rattle.fr_run_rounds.proofs.Behind.{HasPlanOf, plan_now, plan_keeps, parent_keeps}
 use Rattle.fr_run_rounds.proofs.Found.{copying_parent, copying_plan}
-use Rattle.fr_run_rounds.proofs.PeekRound.{PeekRules, HasMany, many_keeps}
+use Rattle.fr_run_rounds.proofs.PeekSteps.{PeekRules, HasMany, many_keeps}
 
 -- ---- what is so at the end was so before
 

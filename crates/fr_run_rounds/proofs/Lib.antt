@@ -7,6 +7,7 @@ pub mod Found
 pub mod LockRound
 pub mod SeedRound
 pub mod PeekAnswers
+pub mod PeekSteps
 pub mod PeekRound
 pub mod Bound
 pub mod RoomLeft

@@ -99,7 +99,7 @@ IsOver r = (r.phase ≡ Chosen) ⊎ ((why : LostWhy) × (r.phase ≡ Lost why))
 abbrev pub CopiesFewer : Config → RecState → ℕ → Type 0
 CopiesFewer c r records = (q : Plan) → r.plan ≡ Some q → (tag : ℕ) → tag < length c.begins → length (part_at q.tail tag).records < records
 
--- a recoverer that had begun had rounds enough since: four, and as many as hundreds of records that are more than it copies of any tag
+-- a recoverer that had begun had rounds enough since: four, and `peeks` more, where of each tag it copies fewer than 100 records for each of these
 pub record HadRounds (c : Config) (h later : List Turn) (b : ℕ) (r : RecState) : Type 0 where
   pub begun : IsSome (rec_at c h b)
   pub rounds : List (List Turn)

@@ -2,7 +2,7 @@ use Rattle.fr_run.specs.Config.{Config}
 use Rattle.fr_run.specs.StateLaws.{IsConfig}
 use Rattle.fr_run_rounds.specs.Ending.{EndsInRounds, UncontestedIsChosen}
 use Rattle.fr_run_rounds.proofs.Bound.{RoundRules, ends_in_rounds}
-use Rattle.fr_run_rounds.proofs.PeekRound.{PeekRules}
+use Rattle.fr_run_rounds.proofs.PeekSteps.{PeekRules}
 use Rattle.fr_run_rounds.proofs.RoomLeft.{uncontested_is_chosen, room_is_chosen}
 use Rattle.fr_run_rounds.proofs.laws.bound_law.Goals as goal
 

@@ -1,6 +1,7 @@
 use Rattle.fr_run.specs.Config.{Config}
 use Rattle.fr_run.specs.StateLaws.{IsConfig}
-use Rattle.fr_run_rounds.proofs.PeekRound.{PeekRules, copying_brings_records}
+use Rattle.fr_run_rounds.proofs.PeekRound.{copying_brings_records}
+use Rattle.fr_run_rounds.proofs.PeekSteps.{PeekRules}
 use Rattle.fr_run_rounds.proofs.SeedRound.{seeding_is_one_round}
 use Rattle.fr_run_rounds.proofs.laws.copies_law.Goals as goal
 
