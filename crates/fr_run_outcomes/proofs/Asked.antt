@@ -69,7 +69,7 @@ refused_more p i promised j e = go p.refusal refl
     go (Some refusal) at = subst (λ o. is_heard (refused_at (progress_from p o) p i promised) j ≡ true) (sym at) e
     go None at = subst (λ o. is_heard (refused_at (progress_from p o) p i promised) j ≡ true) (sym at) (waits (is_majority p) at)
 
-read_more : (t : ReadState) (i : ℕ) (u : CellTell) (j : ℕ) → is_heard t.poll j ≡ true → is_heard (hear_read t i u).poll j ≡ true
+pub read_more : (t : ReadState) (i : ℕ) (u : CellTell) (j : ℕ) → is_heard t.poll j ≡ true → is_heard (hear_read t i u).poll j ≡ true
 read_more t i u j e = go u (is_wanted t.poll i)
   where
     go : (u : CellTell) (b : Bool) → is_heard (cond b (take_read t i u) t).poll j ≡ true
@@ -79,7 +79,7 @@ read_more t i u j e = go u (is_wanted t.poll i)
     go (ctell.Refused promised) true = refused_more t.poll i promised j e
     go ctell.TwoValues true = refused_more t.poll i t.ballot j e
 
-read_cells : (t : ReadState) (i : ℕ) (u : CellTell) → (hear_read t i u).poll.cells ≡ t.poll.cells
+pub read_cells : (t : ReadState) (i : ℕ) (u : CellTell) → (hear_read t i u).poll.cells ≡ t.poll.cells
 read_cells t i u = go u (is_wanted t.poll i)
   where
     refused : (promised : ℕ) (x : Progress) → (refused_at x t.poll i promised).cells ≡ t.poll.cells
@@ -94,7 +94,7 @@ read_cells t i u = go u (is_wanted t.poll i)
     go (ctell.Refused promised) true = refused promised (progress_of t.poll)
     go ctell.TwoValues true = refused t.ballot (progress_of t.poll)
 
-write_more : (t : WriteState) (i : ℕ) (u : CellTell) (j : ℕ) → is_heard t.poll j ≡ true → is_heard (hear_write t i u).poll j ≡ true
+pub write_more : (t : WriteState) (i : ℕ) (u : CellTell) (j : ℕ) → is_heard t.poll j ≡ true → is_heard (hear_write t i u).poll j ≡ true
 write_more t i u j e = go u (is_wanted t.poll i)
   where
     written : (b : Bool) → is_heard (cond b (record t { poll = with_heard t.poll i }) t).poll j ≡ true

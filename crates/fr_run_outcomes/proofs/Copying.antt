@@ -97,6 +97,31 @@ never_removed : (l : LogState) (e tag after most : ℕ) → (x : Bool) → answe
 never_removed l e tag after most true is never = absurd (never (popped_at l.popped tag) is)
 never_removed l e tag after most false is never = is
 
+-- a log that replied answers a peek of a tag that it holds, above what is copied of any tag at first
+pub peek_answered : Laws → CopyIsNeverRemoved → (c : Config) (h : List Turn) → IsConfig c → IsRun c h → (b : ℕ) (r : RecState) (p : Parent) (q : Plan) → rec_at c h b ≡ Some r → r.parent ≡ Some p → r.plan ≡ Some q
+    → (i : ℕ) → Contains q.tail.responders i → (tag : ℕ) → is_held tag q.tail.m q.tail.k i ≡ true → (after : ℕ) → q.tail.pev ≤ after
+    → answer_of (log_at c h p.last.epoch i) (Peek p.last.epoch tag after 100) ≡ Peeked (peek_of (log_at c h p.last.epoch i) tag after 100)
+peek_answered laws never c h config run b r p q at parent plan i has tag held after low =
+    never_removed (log_at c h p.last.epoch i) p.last.epoch tag after 100 (nat_lt after (popped_at (log_at c h p.last.epoch i).popped tag))
+    (peeks (log_at c h p.last.epoch i) p.last.epoch tag after 100 (log_named laws c h run p.last.epoch i source.there).epoch source.seeded holding (let starts = source.starts in omega (arith, starts, low))
+    (nat_lt after (popped_at (log_at c h p.last.epoch i).popped tag)) refl)
+    (λ v. subst (λ j. answer_of (log_at c h p.last.epoch j) (Peek p.last.epoch tag after 100) ≡ Refused (Removed v) → ⊥) source.own
+    (never c h config run b r p q at parent plan source.reply source.among tag after 100 v low))
+  where
+    source : IsSource c h r p q i
+    source = is_source laws c h config run b r p q at parent plan i has
+
+    holding : holds (log_at c h p.last.epoch i) tag ≡ true
+    holding =
+        let name = log_named laws c h run p.last.epoch i source.there in
+        let two : Some name.generation ≡ Some p.last = sym name.of ∙ (parent_is laws c h config run b r p at parent).generation in
+        let mine : name.generation ≡ p.last = cc in
+        let shape = of_replies laws c h run b r p q at parent plan in
+        ap (λ m. is_held tag m (log_at c h p.last.epoch i).k (log_at c h p.last.epoch i).index) (name.m ∙ ap (λ (g : LogGeneration). g.m) mine ∙ sym shape.m)
+        ∙ ap (λ n. is_held tag q.tail.m n (log_at c h p.last.epoch i).index) (name.k ∙ ap (λ (g : LogGeneration). g.k) mine ∙ sym shape.k)
+        ∙ ap (is_held tag q.tail.m q.tail.k) name.index
+        ∙ held
+
 -- ---- the way
 
 -- a moment at which a recoverer copies
@@ -149,34 +174,40 @@ record Rules (c : Config) : Type 0 where
 short_copy : (s : TailState) (tag : ℕ) → tag < length s.parts → (part_at s tag).reached < s.rv → is_complete s ≡ false
 short_copy s tag below short = list_all_at (λ (x : TagPart). x.reached == s.rv) s.parts tag (new_part s.pev) below (ne_eqb (part_at s tag).reached s.rv (λ e. omega (arith, e, short)))
 
--- the peek of a tag that is short was sent to each log that replied and holds it
-peek_sent : (c : Config) → Rules c → (b : ℕ) (p : Parent) (h : List Turn) (r : RecState) (q : Plan) → IsCopying c b p h r q → (tag : ℕ) → tag < length c.begins → (i : ℕ) → Contains q.tail.responders i → is_held tag q.tail.m q.tail.k i ≡ true → (part_at q.tail tag).reached < q.tail.rv
-    → Sent h (node.Recoverer b) (node.Log p.last.epoch i) (ask.Log (Peek p.last.epoch tag (part_at q.tail tag).reached 100))
-peek_sent c rules b p h r q k tag below i has held short =
-    rules.sent c h k.run b r k.at (node.Log p.last.epoch i) (ask.Log (Peek p.last.epoch tag (part_at q.tail tag).reached 100))
-    (subst (λ xs. Contains xs (node.Log p.last.epoch i, ask.Log (Peek p.last.epoch tag (part_at q.tail tag).reached 100))) (sym is)
-    (flat_has (peeks_of_tag r p q) (range_with_len 0 (length r.begins)) tag (node.Log p.last.epoch i, ask.Log (Peek p.last.epoch tag (part_at q.tail tag).reached 100)) (in_range (length r.begins) tag (let e = ap (λ (xs : List (List ℕ)). length xs) begins in omega (arith, e, below))) mine))
+-- it waits for the peek of a tag that is short, of each log that replied and holds it
+pub peek_asked : Laws → CopiesAreTrue → (c : Config) (h : List Turn) → IsConfig c → IsRun c h → (b : ℕ) (r : RecState) (p : Parent) (q : Plan) → rec_at c h b ≡ Some r → r.phase ≡ Copying → r.parent ≡ Some p → r.plan ≡ Some q → (tag : ℕ) → tag < length c.begins
+    → (i : ℕ) → Contains q.tail.responders i → is_held tag q.tail.m q.tail.k i ≡ true → (part_at q.tail tag).reached < q.tail.rv → Contains (pending r) (node.Log p.last.epoch i, ask.Log (Peek p.last.epoch tag (part_at q.tail tag).reached 100))
+peek_asked laws copies c h config run b r p q at phase parent plan tag below i has held short =
+    subst (λ xs. Contains xs (node.Log p.last.epoch i, ask.Log (Peek p.last.epoch tag (part_at q.tail tag).reached 100))) (sym is)
+    (flat_has (peeks_of_tag r p q) (range_with_len 0 (length r.begins)) tag (node.Log p.last.epoch i, ask.Log (Peek p.last.epoch tag (part_at q.tail tag).reached 100)) (in_range (length r.begins) tag (let e = ap (λ (xs : List (List ℕ)). length xs) begins in omega (arith, e, below))) mine)
   where
     begins : r.begins ≡ c.begins
-    begins = begins_same rules.laws c h k.run b r k.at
+    begins = begins_same laws c h run b r at
 
     parts : length q.tail.parts ≡ length c.begins
-    parts = (rules.copies c h rules.config k.run b r p q k.at k.parent k.plan).tags
+    parts = (copies c h config run b r p q at parent plan).tags
 
     is : pending r ≡ peeks_of r (Some p) (Some q) (range_with_len 0 (length r.begins))
     is =
-        ap (λ ph. pending_in ph r) k.phase
-        ∙ ap (λ x. cond x (seeds_of r r.plan) (peeks_of r r.parent r.plan (range_with_len 0 (length r.begins)))) (ap is_copied_in k.plan ∙ short_copy q.tail tag (let e = parts in omega (arith, e, below)) short)
-        ∙ ap (λ o. peeks_of r o r.plan (range_with_len 0 (length r.begins))) k.parent
-        ∙ ap (λ o. peeks_of r (Some p) o (range_with_len 0 (length r.begins))) k.plan
+        ap (λ ph. pending_in ph r) phase
+        ∙ ap (λ x. cond x (seeds_of r r.plan) (peeks_of r r.parent r.plan (range_with_len 0 (length r.begins)))) (ap is_copied_in plan ∙ short_copy q.tail tag (let e = parts in omega (arith, e, below)) short)
+        ∙ ap (λ o. peeks_of r o r.plan (range_with_len 0 (length r.begins))) parent
+        ∙ ap (λ o. peeks_of r (Some p) o (range_with_len 0 (length r.begins))) plan
 
     mine : Contains (peeks_of_tag r p q tag) (node.Log p.last.epoch i, ask.Log (Peek p.last.epoch tag (part_at q.tail tag).reached 100))
     mine = subst (λ x. Contains {X = NodeId × Ask} (cond x (map (λ j. (node.Log p.last.epoch j, ask.Log (Peek p.last.epoch tag (part_at q.tail tag).reached 100))) (filter (λ j. is_held tag q.tail.m q.tail.k j) q.tail.responders)) []) (node.Log p.last.epoch i, ask.Log (Peek p.last.epoch tag (part_at q.tail tag).reached 100)))
         (sym (lt-ltb (part_at q.tail tag).reached q.tail.rv short))
         (map_has (λ j. (node.Log p.last.epoch j, ask.Log (Peek p.last.epoch tag (part_at q.tail tag).reached 100))) (filter (λ j. is_held tag q.tail.m q.tail.k j) q.tail.responders) i (filter_has (λ j. is_held tag q.tail.m q.tail.k j) q.tail.responders i has held))
 
+-- so it was sent
+peek_sent : (c : Config) → Rules c → (b : ℕ) (p : Parent) (h : List Turn) (r : RecState) (q : Plan) → IsCopying c b p h r q → (tag : ℕ) → tag < length c.begins → (i : ℕ) → Contains q.tail.responders i → is_held tag q.tail.m q.tail.k i ≡ true → (part_at q.tail tag).reached < q.tail.rv
+    → Sent h (node.Recoverer b) (node.Log p.last.epoch i) (ask.Log (Peek p.last.epoch tag (part_at q.tail tag).reached 100))
+peek_sent c rules b p h r q k tag below i has held short =
+    rules.sent c h k.run b r k.at (node.Log p.last.epoch i) (ask.Log (Peek p.last.epoch tag (part_at q.tail tag).reached 100))
+    (peek_asked rules.laws rules.copies c h rules.config k.run b r p q k.at k.phase k.parent k.plan tag below i has held short)
+
 -- what a recoverer that copies is once it heard an answer
-peek_heard : (r : RecState) (p : Parent) (q : Plan) (i : ℕ) (peeked : PeekedContent) → r.phase ≡ Copying → r.parent ≡ Some p → r.plan ≡ Some q → after_hear r (node.Log p.last.epoch i) (tell.Log (Peeked peeked)) ≡ with_tail r q i peeked
+pub peek_heard : (r : RecState) (p : Parent) (q : Plan) (i : ℕ) (peeked : PeekedContent) → r.phase ≡ Copying → r.parent ≡ Some p → r.plan ≡ Some q → after_hear r (node.Log p.last.epoch i) (tell.Log (Peeked peeked)) ≡ with_tail r q i peeked
 peek_heard r p q i peeked phase parent plan =
     ap (after_heed r) (
     ap (λ ph. heed_in ph r (OfLog p.last.epoch i (Peeked peeked))) phase
@@ -184,19 +215,22 @@ peek_heard r p q i peeked phase parent plan =
     ∙ ap (λ o. heed_peeked (Some p) o p.last.epoch i peeked) plan
     ∙ ap (λ y. cond y (Given q i peeked) Nothing) (eq-eqb p.last.epoch p.last.epoch refl))
 
--- an answer that goes on brings its tag further
-comes_further : (s : TailState) (i : ℕ) (peeked : PeekedContent) → is_responder s i peeked.tag ≡ true → peeked.after ≡ (part_at s peeked.tag).reached → (part_at s peeked.tag).reached < s.rv → peeked.after < peeked.upto
-    → (part_at s peeked.tag).reached < (part_at (after_peeked s i peeked.tag peeked) peeked.tag).reached
-comes_further s i peeked responds at short up =
-    let goes : goes_on s i peeked ≡ true =
+-- an answer of what comes next goes on
+pub comes_on : (s : TailState) (i : ℕ) (peeked : PeekedContent) → is_responder s i peeked.tag ≡ true → peeked.after ≡ (part_at s peeked.tag).reached → (part_at s peeked.tag).reached < s.rv → peeked.after < peeked.upto → goes_on s i peeked ≡ true
+comes_on s i peeked responds at short up =
     ap (λ x. x && ((peeked.after == (part_at s peeked.tag).reached) && (nat_lt peeked.after s.rv && nat_lt peeked.after peeked.upto))) responds
     ∙ ap (λ x. x && (nat_lt peeked.after s.rv && nat_lt peeked.after peeked.upto)) (eq-eqb peeked.after (part_at s peeked.tag).reached at)
     ∙ ap (λ x. x && nat_lt peeked.after peeked.upto) (lt-ltb peeked.after s.rv (omega (arith, at, short)))
-    ∙ lt-ltb peeked.after peeked.upto up in
+    ∙ lt-ltb peeked.after peeked.upto up
+
+-- and brings its tag further
+comes_further : (s : TailState) (i : ℕ) (peeked : PeekedContent) → is_responder s i peeked.tag ≡ true → peeked.after ≡ (part_at s peeked.tag).reached → (part_at s peeked.tag).reached < s.rv → peeked.after < peeked.upto
+    → (part_at s peeked.tag).reached < (part_at (after_peeked s i peeked.tag peeked) peeked.tag).reached
+comes_further s i peeked responds at short up =
     let is : (part_at (after_peeked s i peeked.tag peeked) peeked.tag).reached ≡ min peeked.upto s.rv =
     reached_is s i peeked peeked.tag
     ∙ ap (λ x. cond (x && goes_on s i peeked) (min peeked.upto s.rv) (part_at s peeked.tag).reached) (eq-eqb peeked.tag peeked.tag refl)
-    ∙ ap (λ x. cond x (min peeked.upto s.rv) (part_at s peeked.tag).reached) goes in
+    ∙ ap (λ x. cond x (min peeked.upto s.rv) (part_at s peeked.tag).reached) (comes_on s i peeked responds at short up) in
     omega (arith, is, at, short, up)
 
 -- one more answer
@@ -241,27 +275,11 @@ copy_one c rules b p h r q k tag below i has held alive short = record {
         ∙ ap (λ x. x && nat_lt tag (length q.tail.parts)) held
         ∙ lt-ltb tag (length q.tail.parts) (let e = copy.tags in omega (arith, e, below))
 
-    holding : holds (log_at c h p.last.epoch i) tag ≡ true
-    holding =
-        let name = log_named rules.laws c h k.run p.last.epoch i source.there in
-        let two : Some name.generation ≡ Some p.last = sym name.of ∙ (parent_is rules.laws c h rules.config k.run b r p k.at k.parent).generation in
-        let mine : name.generation ≡ p.last = cc in
-        let shape = of_replies rules.laws c h k.run b r p q k.at k.parent k.plan in
-        ap (λ m. is_held tag m (log_at c h p.last.epoch i).k (log_at c h p.last.epoch i).index) (name.m ∙ ap (λ (g : LogGeneration). g.m) mine ∙ sym shape.m)
-        ∙ ap (λ n. is_held tag q.tail.m n (log_at c h p.last.epoch i).index) (name.k ∙ ap (λ (g : LogGeneration). g.k) mine ∙ sym shape.k)
-        ∙ ap (is_held tag q.tail.m q.tail.k) name.index
-        ∙ held
-
     low : q.tail.pev ≤ (part_at q.tail tag).reached
     low = (copy.copied tag).low
 
     answers : answer_of (log_at c h p.last.epoch i) (Peek p.last.epoch tag (part_at q.tail tag).reached 100) ≡ Peeked (peek_of (log_at c h p.last.epoch i) tag (part_at q.tail tag).reached 100)
-    answers =
-        never_removed (log_at c h p.last.epoch i) p.last.epoch tag (part_at q.tail tag).reached 100 (nat_lt (part_at q.tail tag).reached (popped_at (log_at c h p.last.epoch i).popped tag))
-        (peeks (log_at c h p.last.epoch i) p.last.epoch tag (part_at q.tail tag).reached 100 (log_named rules.laws c h k.run p.last.epoch i source.there).epoch source.seeded holding (let starts = source.starts in omega (arith, starts, low))
-        (nat_lt (part_at q.tail tag).reached (popped_at (log_at c h p.last.epoch i).popped tag)) refl)
-        (λ v. subst (λ j. answer_of (log_at c h p.last.epoch j) (Peek p.last.epoch tag (part_at q.tail tag).reached 100) ≡ Refused (Removed v) → ⊥) source.own
-        (rules.never c h rules.config k.run b r p q k.at k.parent k.plan source.reply source.among tag (part_at q.tail tag).reached 100 v low))
+    answers = peek_answered rules.laws rules.never c h rules.config k.run b r p q k.at k.parent k.plan i has tag held (part_at q.tail tag).reached low
 
     heard : IsHeard c h b (LogTurn (node.Recoverer b) p.last.epoch i (Peek p.last.epoch tag (part_at q.tail tag).reached 100) (answer_of (log_at c h p.last.epoch i) (Peek p.last.epoch tag (part_at q.tail tag).reached 100)))
         (with_tail r q i (peek_of (log_at c h p.last.epoch i) tag (part_at q.tail tag).reached 100))
@@ -343,7 +361,7 @@ copy_all c rules b p h r q k holder (tag ∷ tags) below =
       passes = All-cons (λ t. IsFull t one.plan) tag tags one.passes (All-weaker (λ t. IsFull t rest.plan) (λ t. IsFull t one.plan) (λ t e. one.on.keeps t e) tags rest.passes);
     }
 
-all_true : (f : TagPart → Bool) (ps : List TagPart) (d : TagPart) → ((t : ℕ) → t < length ps → f (get_or ps t d) ≡ true) → list_all f ps ≡ true
+pub all_true : (f : TagPart → Bool) (ps : List TagPart) (d : TagPart) → ((t : ℕ) → t < length ps → f (get_or ps t d) ≡ true) → list_all f ps ≡ true
 all_true f [] d each = refl
 all_true f (p ∷ ps) d each = rw (each 0 (omega arith)) (all_true f ps d (λ t less. each (suc t) (omega (arith, less))))
 

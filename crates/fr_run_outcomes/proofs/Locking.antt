@@ -84,13 +84,13 @@ lock_sent sent c b p gone h r end k i below fresh =
     (map_has (λ j. (node.Log p.last.epoch j, ask.Log (Lock p.last.epoch))) (left p.last.m (has_replied end)) i (left_has p.last.m (has_replied end) i below fresh)))
 
 -- the logs of the epoch that it ends are there, and seeded
-parent_seeded : Laws → ChosenIsSeeded → WritingIsSeeded → (c : Config) (h : List Turn) → IsConfig c → IsRun c h → (b : ℕ) (r : RecState) (p : Parent) → rec_at c h b ≡ Some r → r.parent ≡ Some p → IsSeededEpoch c h p.last.epoch
+pub parent_seeded : Laws → ChosenIsSeeded → WritingIsSeeded → (c : Config) (h : List Turn) → IsConfig c → IsRun c h → (b : ℕ) (r : RecState) (p : Parent) → rec_at c h b ≡ Some r → r.parent ≡ Some p → IsSeededEpoch c h p.last.epoch
 parent_seeded laws chosen writing c h config run b r p at parent = elim (parent_is_planned laws c h config run b r p at parent) [
   | inl first ↦ subst (IsSeededEpoch c h) (sym first) (chosen c h config run first_epoch (first_is_chosen c h))
   | inr k ↦ writing c h config run p.last.epoch k.recoverer k.at k.written
 ]
 
-parent_logs : Laws → ChosenIsSeeded → WritingIsSeeded → (c : Config) (h : List Turn) → IsConfig c → IsRun c h → (b : ℕ) (r : RecState) (p : Parent) → rec_at c h b ≡ Some r → r.parent ≡ Some p → (i : ℕ) → i < p.last.m
+pub parent_logs : Laws → ChosenIsSeeded → WritingIsSeeded → (c : Config) (h : List Turn) → IsConfig c → IsRun c h → (b : ℕ) (r : RecState) (p : Parent) → rec_at c h b ≡ Some r → r.parent ≡ Some p → (i : ℕ) → i < p.last.m
     → (i < logs_at c h p.last.epoch) × (is_some (log_at c h p.last.epoch i).seed ≡ true)
 parent_logs laws chosen writing c h config run b r p at parent i below =
     let epoch = parent_seeded laws chosen writing c h config run b r p at parent in
@@ -185,7 +185,7 @@ lock_one rules c config b p gone h r end k i below here fresh = come (is_covered
     come x e = locked rules c config b p gone h r end k i below here fresh (durable_of (log_at c h p.last.epoch i)) (known_of (log_at c h p.last.epoch i)) (log_at c h p.last.epoch i).popped refl _ heard x e
 
 -- a log replied, or is gone
-abbrev IsDone : List ℕ → EndState → ℕ → Type 0
+abbrev pub IsDone : List ℕ → EndState → ℕ → Type 0
 IsDone gone end i = (has_replied end i || is_among gone i) ≡ true
 
 done_later : (gone : List ℕ) (end more : EndState) → ((j : ℕ) → has_replied end j ≡ true → has_replied more j ≡ true) → (i : ℕ) → IsDone gone end i → IsDone gone more i
@@ -269,7 +269,7 @@ lock_all rules c config b p gone h r end k (i ∷ logs) below =
 -- ---- the end
 
 -- where all replied but those that are gone, which are fewer than k, the replies cover
-all_cover : (end : EndState) (gone : List ℕ) → end.k ≤ end.m → log_count end.m gone < end.k → ((i : ℕ) → i < end.m → IsDone gone end i) → is_covered end ≡ true
+pub all_cover : (end : EndState) (gone : List ℕ) → end.k ≤ end.m → log_count end.m gone < end.k → ((i : ℕ) → i < end.m → IsDone gone end i) → is_covered end ≡ true
 all_cover end gone fits few each =
     lt-ltb (end.m - end.k) (log_count end.m (responders end)) (
     let both = log_count_either end.m (responders end) gone (λ i l. ap (λ b. b || is_among gone i) (among_map (λ (r : Reply). r.log) end.replies i) ∙ each i l) in

@@ -152,6 +152,22 @@ seeds l s own held other =
     ∙ ap (λ x. cond (not x) (Some NotMine) (cond (has_other_seed l.popped l.seed s) (Some SeedDiffers) None)) held
     ∙ ap (λ x. cond x (Some SeedDiffers) None) other)
 
+-- so a log answers the seed of its ballot's plan
+pub seed_answered : Laws → (c : Config) (h : List Turn) → IsRun c h → (b : ℕ) (r : RecState) (q : Plan) → rec_at c h b ≡ Some r → r.plan ≡ Some q → (i : ℕ) → i < logs_at c h b
+    → answer_of (log_at c h b i) (Seed (seed_for q.tail b q.generation.m q.generation.k i)) ≡ Seeded
+seed_answered laws c h run b r q at plan i there =
+    seeds (log_at c h b i) (seed_for q.tail b q.generation.m q.generation.k i) (sym (log_named laws c h run b i there).epoch) (seed_held (holds (log_at c h b i)) q.tail b q.generation.m q.generation.k i holding)
+    (no_other (log_at c h b i) (seed_for q.tail b q.generation.m q.generation.k i) (λ s e. own_seed laws c h run b r q at plan i there s e))
+  where
+    holding : (t : ℕ) → holds (log_at c h b i) t ≡ is_held t q.generation.m q.generation.k i
+    holding t =
+        let name = log_named laws c h run b i there in
+        let two : Some name.generation ≡ Some q.generation = sym name.of ∙ generation_planned laws c h run b r at q plan in
+        let mine : name.generation ≡ q.generation = cc in
+        ap (λ m. is_held t m (log_at c h b i).k (log_at c h b i).index) (name.m ∙ ap (λ (g : LogGeneration). g.m) mine)
+        ∙ ap (λ n. is_held t q.generation.m n (log_at c h b i).index) (name.k ∙ ap (λ (g : LogGeneration). g.k) mine)
+        ∙ ap (is_held t q.generation.m q.generation.k) name.index
+
 -- ---- the way
 
 -- a moment at which the copy of a recoverer is complete, and no log of its generation is gone
@@ -229,18 +245,8 @@ seed_one laws sent c b q h r k i below fresh = record {
     there : i < logs_at c h b
     there = let many = new_logs laws c b q h r k in omega (arith, many, below)
 
-    holding : (t : ℕ) → holds (log_at c h b i) t ≡ is_held t q.generation.m q.generation.k i
-    holding t =
-        let name = log_named laws c h k.run b i there in
-        let two : Some name.generation ≡ Some q.generation = sym name.of ∙ generation_planned laws c h k.run b r k.at q k.plan in
-        let mine : name.generation ≡ q.generation = cc in
-        ap (λ m. is_held t m (log_at c h b i).k (log_at c h b i).index) (name.m ∙ ap (λ (g : LogGeneration). g.m) mine)
-        ∙ ap (λ n. is_held t q.generation.m n (log_at c h b i).index) (name.k ∙ ap (λ (g : LogGeneration). g.k) mine)
-        ∙ ap (is_held t q.generation.m q.generation.k) name.index
-
     answers : answer_of (log_at c h b i) (Seed (seed_for q.tail b q.generation.m q.generation.k i)) ≡ Seeded
-    answers = seeds (log_at c h b i) (seed_for q.tail b q.generation.m q.generation.k i) (sym (log_named laws c h k.run b i there).epoch) (seed_held (holds (log_at c h b i)) q.tail b q.generation.m q.generation.k i holding)
-        (no_other (log_at c h b i) (seed_for q.tail b q.generation.m q.generation.k i) (λ s e. own_seed laws c h k.run b r q k.at k.plan i there s e))
+    answers = seed_answered laws c h k.run b r q k.at k.plan i there
 
     heard : IsHeard c h b (LogTurn (node.Recoverer b) b i (Seed (seed_for q.tail b q.generation.m q.generation.k i)) (answer_of (log_at c h b i) (Seed (seed_for q.tail b q.generation.m q.generation.k i)))) (after_hear r (node.Log b i) (tell.Log Seeded))
     heard = subst (λ t. IsHeard c h b (LogTurn (node.Recoverer b) b i (Seed (seed_for q.tail b q.generation.m q.generation.k i)) (answer_of (log_at c h b i) (Seed (seed_for q.tail b q.generation.m q.generation.k i)))) (after_hear r (node.Log b i) (tell.Log t))) answers

@@ -56,7 +56,7 @@ still_low s b v le = go (nat_lt b s.promised) (is_second s b v)
 -- ---- a poll that waits
 
 -- it has no refusal, and no majority
-waits_so : (p : Poll) → progress_of p ≡ poll.Waiting → (p.refusal ≡ None) × (is_majority p ≡ false)
+pub waits_so : (p : Poll) → progress_of p ≡ poll.Waiting → (p.refusal ≡ None) × (is_majority p ≡ false)
 waits_so p e = go p.refusal refl (is_majority p) refl
   where
     go : (o : Option Refusal) → p.refusal ≡ o → (x : Bool) → is_majority p ≡ x → (p.refusal ≡ None) × (is_majority p ≡ false)

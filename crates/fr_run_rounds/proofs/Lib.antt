@@ -1,0 +1,14 @@
+pub mod Along
+pub mod Tallies
+pub mod ReadRound
+pub mod WriteRound
+pub mod Behind
+pub mod Found
+pub mod LockRound
+pub mod SeedRound
+pub mod PeekAnswers
+pub mod PeekSteps
+pub mod PeekRound
+pub mod Bound
+pub mod RoomLeft
+pub mod Coming
