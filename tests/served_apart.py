@@ -105,7 +105,11 @@ def configurations(checks, room):
                           (("keeper", "--number", "1", "--config", path), 3),
                           (("init", "--number", "1", "--config", path), 0),
                           (("init", "--number", "1", "--config", path), 3), (("journals", f"{room}/m1"), 1),
-                          (("bench", "--seconds", "1", "--clients", "0", "--config", path), 2)):
+                          (("journals", "--drop-before", "1", f"{room}/m0"), 1),
+                          (("journals", "--drop-before", "x", f"{room}/m0"), 2),
+                          (("bench", "--seconds", "1", "--clients", "0", "--config", path), 2),
+                          (("bench", "--seconds", "1", "--clients", "1", "--keys", "1000", "--config", path), 2),
+                          (("bench", "--clients", "1", "--config", path), 2)):
         ran = said(*words, env={key: its for key, its in os.environ.items() if key != "FDBREC_CONFIG"})
         is_so = ran.returncode == status and "panic" not in ran.stderr and (ran.stderr or status == 0)
         checks.check(is_so, words, ran.returncode, ran.stderr[-300:])
@@ -145,7 +149,7 @@ def running(checks, room):
         early(checks, cluster)
         lost_file(checks, cluster)
         erased(checks, cluster)
-        cluster.stop()
+        dropped(checks, cluster)
         line, why, _ = cluster.audit()
         checks.check(line == "audit ok", line, why)
     finally:
@@ -243,6 +247,38 @@ def erased(checks, cluster):
     checks.check(not left(), "records of ended epochs:", left())
     journals = [name for at in range(5) for name in os.listdir(f"{cluster.room}/m{at}/journals")]
     checks.check(f"sequencer-{first}" in journals, "the journals of an ended epoch stay:", sorted(journals))
+
+
+def dropped(checks, cluster):
+    """Journals of ended epochs are dropped, and a machine is started again over what is left. No script is made then.
+    Copies that are put back make the journals whole again: the audit that follows sees all of them."""
+    rooms = [f"{cluster.room}/m{at}" for at in range(5)]
+    newest = cluster.standing()["newest"]
+    gens = newest["state"] if isinstance(newest["state"], list) else newest["state"]["gens"]
+    oldest = gens[0]["epoch"]
+    ran = said("journals", "--drop-before", str(newest["epoch"] + 1), *rooms)
+    is_so = ran.returncode == 1 and "nothing is dropped: " in ran.stderr and f"at most --drop-before {oldest}" in ran.stderr
+    checks.check(is_so, "the newest epoch's journals:", ran.returncode, ran.stdout, ran.stderr)
+    for room in rooms:
+        shutil.copytree(f"{room}/journals", f"{room}/copies")
+    ends = time.monotonic() + 60
+    while (ran := said("journals", "--drop-before", str(oldest), *rooms)).returncode and time.monotonic() < ends:
+        time.sleep(0.5)  # (until each agent has ended what is over)
+    checks.check(ran.stdout.startswith("dropped: the journals of "), "dropped:", ran.stdout, ran.stderr)
+    names = [name for room in rooms for name in os.listdir(f"{room}/journals")]
+    left = [it[0] for it in (re.fullmatch(r"(log|sequencer|proxy|recoverer)-(\d+).*", name) for name in names)
+            if it and int(it[2]) < oldest]
+    checks.check(names and not left, "journals of ended epochs:", left)
+    cluster.kill("m2")
+    cluster.start("m2")
+    checks.check(cluster.comes(60) is not None, "it goes on over the journals that are left:", cluster.last.stderr)
+    cluster.stop()
+    ran = said("journals", *rooms)
+    is_so = ran.returncode == 1 and not ran.stdout and f"of epochs before {oldest} were dropped" in ran.stderr
+    checks.check(is_so, "journals that were dropped:", ran.returncode, ran.stderr)
+    for room in rooms:
+        subprocess.run(["cp", "-rn", f"{room}/copies/.", f"{room}/journals"], check=True)
+        os.remove(f"{room}/dropped.json")
 
 
 def raw_port(cluster):

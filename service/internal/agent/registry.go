@@ -37,6 +37,7 @@ type Room struct {
 	Cluster string `json:"cluster"`
 	Machine string `json:"machine"`
 	Start   Start  `json:"start"`
+	Joined  bool   `json:"joined,omitempty"` // its start is what the configuration said when it was added
 }
 
 // First is the epoch with which each cluster begins.
@@ -117,7 +118,7 @@ func Init(c *config.Config, machine *config.Machine, joins bool) error {
 			return err
 		}
 	}
-	return writeJSON(path, Room{c.Cluster, machine.Name, StartOf(c)})
+	return writeJSON(path, Room{c.Cluster, machine.Name, StartOf(c), joins})
 }
 
 // enter reads and locks the room, and sees that it is this machine's.
