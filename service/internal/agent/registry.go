@@ -125,7 +125,8 @@ func Init(c *config.Config, machine *config.Machine, joins bool) error {
 func (a *Agent) enter() error {
 	text, err := os.ReadFile(filepath.Join(a.room, "room.json"))
 	if os.IsNotExist(err) {
-		return fmt.Errorf("%s has no room.json: `fdbrec-service init` makes it, once", a.room)
+		return fmt.Errorf("%s has no room.json: is its disk there? `fdbrec-service init` makes it, once: a machine that was made "+
+			"before and is made again has forgotten what it promised", a.room)
 	}
 	if err != nil {
 		return err
