@@ -32,6 +32,9 @@ const usage = `fdbrec-service COMMAND --config FILE ..
                                   least P are used from the start on; --acks writes down each key that was acknowledged,
                                   --trace when that commit began and ended, in nanoseconds since 1970
   check --acks FILE               read what such a file has; status 1 if one is missing
+  dump                            have each shard's rows, at a version that no recovery takes back, written into a file on
+                                  the machine of its storage server; print where they are
+  load FILE..                     put the rows of such files
   nkeys                           make the nkeys that FILE names, and print what brokers are told of them
   journals ROOM..                 print the journals of these folders as one script of an audit
   journals --drop-before EPOCH ROOM..   drop the journals of nodes of epochs before this one, which no state names any
@@ -57,7 +60,7 @@ func bad(why string, words ...interface{}) error { return &ending{2, fmt.Sprintf
 var commands = map[string]func(*words) error{
 	"init": initialize, "agent": runAgent, "keeper": runKeeper, "status": status, "recover": recoverNow, "put": put,
 	"clear": clearKeys, "add": add, "get": get, "watch": watch, "bench": bench, "check": check, "journals": journals,
-	"dev": dev, "nkeys": makeKeys,
+	"dev": dev, "nkeys": makeKeys, "dump": dump, "load": load,
 }
 
 func main() {

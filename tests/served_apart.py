@@ -105,6 +105,7 @@ def configurations(checks, room):
                           (("keeper", "--number", "1", "--config", path), 3),
                           (("init", "--number", "1", "--config", path), 0),
                           (("init", "--number", "1", "--config", path), 3), (("journals", f"{room}/m1"), 1),
+                          (("load", "--config", path), 2), (("load", f"{room}/m0/room.json", "--config", path), 1),
                           (("journals", "--drop-before", "1", f"{room}/m0"), 1),
                           (("journals", "--drop-before", "x", f"{room}/m0"), 2),
                           (("bench", "--seconds", "1", "--clients", "0", "--config", path), 2),
@@ -144,6 +145,7 @@ def running(checks, room):
         late_pop(checks, cluster)
         others(checks, cluster)
         values(checks, cluster)
+        dumps(checks, cluster)
         pages(checks, port)
         in_use(checks, cluster)
         early(checks, cluster)
@@ -317,6 +319,37 @@ def values(checks, cluster):
         checks.check(ran.stdout.startswith(wanted), words, "gives", ran.stdout, ran.stderr, "wanted", wanted)
     ran = cluster.run("put", "k" * 10001, "v")
     checks.check(ran.returncode == 1 and "a key has more than 10000 bytes" in ran.stderr, ran.returncode, ran.stderr)
+
+
+def dumps(checks, cluster):
+    """A dump has what was acknowledged before it, of each shard; what is lost then is there again once it is loaded."""
+    its = {f"{letter}{at:04}": f"value {at}" for letter in "bt" for at in range(40)}
+    text = "".join(f'["{key.encode().hex()}","{value.encode().hex()}"]\n' for key, value in its.items())
+    with open(f"{cluster.room}/made", "w", encoding="utf-8") as it:
+        it.write(f'{{"cluster":"other","tag":0,"epoch":257,"version":9,"rows":{len(its)}}}\n{text}')
+    ran = cluster.run("load", f"{cluster.room}/made")
+    checks.check(ran.stdout == f"{cluster.room}/made: 80 rows are put\n", "load:", ran.stdout, ran.stderr)
+    ran = cluster.run("dump", "--within", "30s")
+    found = re.findall(r"^shard (\d) epoch (\d+) version (\d+) rows (\d+): (\S+) on (m\d)$", ran.stdout, re.M)
+    checks.check(len(found) == 2, "dump:", ran.stdout, ran.stderr)
+    rows = []
+    for shard, epoch, version, count, path, machine in found:
+        with open(path, encoding="utf-8") as it:
+            head, *lines = it.read().splitlines()
+        wanted = {"cluster": "dev", "tag": int(shard), "epoch": int(epoch), "version": int(version), "rows": int(count)}
+        is_so = json.loads(head) == wanted and len(lines) == int(count) and path.startswith(f"{cluster.room}/{machine}/")
+        checks.check(is_so, "the head of a dump:", head, wanted)
+        rows += [tuple(bytes.fromhex(each).decode("latin-1") for each in json.loads(line)) for line in lines]
+    keys = [key for key, _ in rows]
+    checks.check(its.items() <= dict(rows).items() and len(set(keys)) == len(keys), "rows of dumps:", rows)
+    checks.check(not [key for key in keys if "/session/" in key], "keys of sessions in a dump")
+    cluster.run("clear", "a", "zz", "--within", "20s")
+    ran = cluster.run("load", *(path for *_, path, _ in found))
+    checks.check(ran.stdout.count(" rows are put\n") == 2, "load:", ran.stdout, ran.stderr)
+    for key in ("b0000", "b0039", "t0000", "t0039"):
+        ran = cluster.run("get", key, "--within", "20s")
+        checks.check(ran.stdout == f"{its[key]}\n", "get", key, "of a dump that was loaded:", ran.stdout, ran.stderr)
+    cluster.run("clear", "a", "zz", "--within", "20s")
 
 
 def pages(checks, port):

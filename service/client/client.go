@@ -26,7 +26,7 @@ import (
 // Sessions are the prefixes of the keys that clients keep, \x00/session/ and \xff/session/: the first is in the first
 // shard, the other one mostly in the last. A put writes the one that is in its own shard, if either is: then no more logs
 // and storage servers have to do with it than without.
-var Sessions = []string{"002f73657373696f6e2f", "ff2f73657373696f6e2f"}
+var Sessions = wire.Sessions
 
 // ErrNoCluster says that no machine of the cluster answered in time: nothing was done.
 var ErrNoCluster = errors.New("the cluster does not answer")
