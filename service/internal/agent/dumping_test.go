@@ -55,6 +55,9 @@ func TestDump(t *testing.T) {
 		{"never settled", stand{Epoch: 513, Floor: 4, Version: 9}, []stand{{Epoch: 513, Floor: 8, Version: 12}}, []stand{{Epoch: 513, Floor: 11, Version: 15}}, 0},
 		{"a recovery between", stand{Epoch: 513, Floor: 4, Version: 12}, []stand{{Epoch: 513, Floor: 8, Version: 12}, {Epoch: 769, Floor: 8, Version: 11}},
 			[]stand{{Epoch: 769, Floor: 20, Version: 20}, {Epoch: 769, Floor: 11, Version: 13}}, 11},
+		{"a recovery whose floor is low for a while", stand{Epoch: 513, Floor: 4, Version: 12},
+			[]stand{{Epoch: 513, Floor: 8, Version: 12}, {Epoch: 769, Floor: 8, Version: 10}},
+			[]stand{{Epoch: 769, Floor: 8, Version: 10}, {Epoch: 769, Floor: 10, Version: 11}}, 10},
 	} {
 		n := storageIn(t)
 		n.state = "up"
@@ -67,6 +70,9 @@ func TestDump(t *testing.T) {
 			n.standsAt(row.then[at])
 		}
 		found := <-told
+		if len(n.queue) > 0 {
+			t.Errorf("%s: it is asked for its rows once more", row.name)
+		}
 		if found.Version != row.wanted || (found.Refused == "") != (row.wanted > 0) {
 			t.Errorf("%s: %+v", row.name, found)
 		}
