@@ -27,11 +27,18 @@ const usage = `fdbrec-service COMMAND --config FILE ..
   get KEY [--settled | --stale]   print a value, as of all that was acknowledged before; --settled: as of the last
                                   version that no recovery takes back; --stale: where the storage server is
   watch KEY                       print each value that a key comes to have and keeps
-  bench --seconds N --clients K [--acks FILE] [--trace FILE]    put keys of their own; --acks writes down each one that
-                                  was acknowledged, --trace when that put began and ended, in nanoseconds since 1970
+  bench --clients K --seconds N | --commits N [--keys M] [--proxies P] [--acks FILE] [--trace FILE]
+                                  put keys of their own, M in a commit (1), for so long or so many commits; --proxies: at
+                                  least P are used from the start on; --acks writes down each key that was acknowledged,
+                                  --trace when that commit began and ended, in nanoseconds since 1970
   check --acks FILE               read what such a file has; status 1 if one is missing
+  dump                            have each shard's rows, at a version that no recovery takes back, written into a file on
+                                  the machine of its storage server; print where they are
+  load FILE..                     put the rows of such files
   nkeys                           make the nkeys that FILE names, and print what brokers are told of them
   journals ROOM..                 print the journals of these folders as one script of an audit
+  journals --drop-before EPOCH ROOM..   drop the journals of nodes of epochs before this one, which no state names any
+                                  more, and older files of the other nodes: no audit is possible then
   dev FOLDER [--machines N]       run broker, agents and keepers of a cluster of its own on this machine, in FOLDER
   dev FOLDER --write              only write FOLDER/service.toml and FOLDER/broker.conf
 
@@ -53,7 +60,7 @@ func bad(why string, words ...interface{}) error { return &ending{2, fmt.Sprintf
 var commands = map[string]func(*words) error{
 	"init": initialize, "agent": runAgent, "keeper": runKeeper, "status": status, "recover": recoverNow, "put": put,
 	"clear": clearKeys, "add": add, "get": get, "watch": watch, "bench": bench, "check": check, "journals": journals,
-	"dev": dev, "nkeys": makeKeys,
+	"dev": dev, "nkeys": makeKeys, "dump": dump, "load": load,
 }
 
 func main() {
@@ -90,7 +97,8 @@ type words struct {
 }
 
 var valued = map[string]bool{"config": true, "machine": true, "number": true, "within": true, "log": true, "seconds": true,
-	"clients": true, "acks": true, "trace": true, "machines": true, "broker": true, "node": true}
+	"clients": true, "acks": true, "trace": true, "machines": true, "broker": true, "node": true,
+	"commits": true, "keys": true, "proxies": true, "drop-before": true}
 var plain = map[string]bool{"json": true, "hex": true, "settled": true, "stale": true, "write": true, "join": true}
 
 func parse(its []string) (*words, error) {

@@ -16,7 +16,7 @@ func permits(c *config.Config, sender string) (publish, subscribe []string) {
 	prefix := "fdbrec." + c.Cluster + "."
 	inbox := prefix + "inbox.>"
 	if sender == "client" {
-		for _, each := range []string{"submit", "read", "who", "status", "recover"} {
+		for _, each := range []string{"submit", "read", "dump", "who", "status", "recover"} {
 			publish = append(publish, prefix+each+".>")
 		}
 		return publish, []string{prefix + "epoch.*", inbox}

@@ -94,8 +94,12 @@ type stands struct {
 
 func (s *standing) print(its *config.Config) {
 	gen := s.Newest.Last()
-	fmt.Printf("cluster %s epoch %d pev %d rv %d logs %d degree %d generations %d dropped %d\n", its.Cluster, s.Newest.Epoch,
-		s.Newest.Pev, s.Newest.Rv, gen.M, gen.K, len(s.Newest.State.Gens), s.Newest.State.Dropped)
+	oldest := uint64(0)
+	if len(s.Newest.State.Gens) > 0 {
+		oldest = s.Newest.State.Gens[0].Epoch
+	}
+	fmt.Printf("cluster %s epoch %d pev %d rv %d logs %d degree %d generations %d oldest %d dropped %d\n", its.Cluster,
+		s.Newest.Epoch, s.Newest.Pev, s.Newest.Rv, gen.M, gen.K, len(s.Newest.State.Gens), oldest, s.Newest.State.Dropped)
 	durable := uint64(0)
 	for _, each := range s.Machines {
 		for _, node := range each.Nodes {

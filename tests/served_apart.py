@@ -105,7 +105,12 @@ def configurations(checks, room):
                           (("keeper", "--number", "1", "--config", path), 3),
                           (("init", "--number", "1", "--config", path), 0),
                           (("init", "--number", "1", "--config", path), 3), (("journals", f"{room}/m1"), 1),
-                          (("bench", "--seconds", "1", "--clients", "0", "--config", path), 2)):
+                          (("load", "--config", path), 2), (("load", f"{room}/m0/room.json", "--config", path), 1),
+                          (("journals", "--drop-before", "1", f"{room}/m0"), 1),
+                          (("journals", "--drop-before", "x", f"{room}/m0"), 2),
+                          (("bench", "--seconds", "1", "--clients", "0", "--config", path), 2),
+                          (("bench", "--seconds", "1", "--clients", "1", "--keys", "1000", "--config", path), 2),
+                          (("bench", "--clients", "1", "--config", path), 2)):
         ran = said(*words, env={key: its for key, its in os.environ.items() if key != "FDBREC_CONFIG"})
         is_so = ran.returncode == status and "panic" not in ran.stderr and (ran.stderr or status == 0)
         checks.check(is_so, words, ran.returncode, ran.stderr[-300:])
@@ -140,12 +145,13 @@ def running(checks, room):
         late_pop(checks, cluster)
         others(checks, cluster)
         values(checks, cluster)
+        dumps(checks, cluster)
         pages(checks, port)
         in_use(checks, cluster)
         early(checks, cluster)
         lost_file(checks, cluster)
         erased(checks, cluster)
-        cluster.stop()
+        dropped(checks, cluster)
         line, why, _ = cluster.audit()
         checks.check(line == "audit ok", line, why)
     finally:
@@ -245,6 +251,38 @@ def erased(checks, cluster):
     checks.check(f"sequencer-{first}" in journals, "the journals of an ended epoch stay:", sorted(journals))
 
 
+def dropped(checks, cluster):
+    """Journals of ended epochs are dropped, and a machine is started again over what is left. No script is made then.
+    Copies that are put back make the journals whole again: the audit that follows sees all of them."""
+    rooms = [f"{cluster.room}/m{at}" for at in range(5)]
+    newest = cluster.standing()["newest"]
+    gens = newest["state"] if isinstance(newest["state"], list) else newest["state"]["gens"]
+    oldest = gens[0]["epoch"]
+    ran = said("journals", "--drop-before", str(newest["epoch"] + 1), *rooms)
+    is_so = re.match(f"nothing is dropped: .* at most --drop-before {oldest}$", ran.stderr)
+    checks.check(is_so and ran.returncode == 1, "the newest epoch's journals:", ran.returncode, ran.stdout, ran.stderr)
+    for room in rooms:
+        shutil.copytree(f"{room}/journals", f"{room}/copies")
+    ends = time.monotonic() + 60
+    while (ran := said("journals", "--drop-before", str(oldest), *rooms)).returncode and time.monotonic() < ends:
+        time.sleep(0.5)  # (until each agent has ended what is over)
+    checks.check(ran.stdout.startswith("dropped: the journals of "), "dropped:", ran.stdout, ran.stderr)
+    names = [name for room in rooms for name in os.listdir(f"{room}/journals")]
+    left = [it[0] for it in (re.fullmatch(r"(log|sequencer|proxy|recoverer)-(\d+).*", name) for name in names)
+            if it and int(it[2]) < oldest]
+    checks.check(names and not left, "journals of ended epochs:", left)
+    cluster.kill("m2")
+    cluster.start("m2")
+    checks.check(cluster.comes(60) is not None, "it goes on over the journals that are left:", cluster.last.stderr)
+    cluster.stop()
+    ran = said("journals", *rooms)
+    is_so = ran.returncode == 1 and not ran.stdout and f"of epochs before {oldest} were dropped" in ran.stderr
+    checks.check(is_so, "journals that were dropped:", ran.returncode, ran.stderr)
+    for room in rooms:
+        subprocess.run(["cp", "-rn", f"{room}/copies/.", f"{room}/journals"], check=True)
+        os.remove(f"{room}/dropped.json")
+
+
 def raw_port(cluster):
     with open(cluster.config, encoding="utf-8") as it:
         return int(re.search(r"nats://127.0.0.1:(\d+)", it.read())[1])
@@ -281,6 +319,37 @@ def values(checks, cluster):
         checks.check(ran.stdout.startswith(wanted), words, "gives", ran.stdout, ran.stderr, "wanted", wanted)
     ran = cluster.run("put", "k" * 10001, "v")
     checks.check(ran.returncode == 1 and "a key has more than 10000 bytes" in ran.stderr, ran.returncode, ran.stderr)
+
+
+def dumps(checks, cluster):
+    """A dump has what was acknowledged before it, of each shard; what is lost then is there again once it is loaded."""
+    its = {f"{letter}{at:04}": f"value {at}" for letter in "bt" for at in range(40)}
+    text = "".join(f'["{key.encode().hex()}","{value.encode().hex()}"]\n' for key, value in its.items())
+    with open(f"{cluster.room}/made", "w", encoding="utf-8") as it:
+        it.write(f'{{"cluster":"other","tag":0,"epoch":257,"version":9,"rows":{len(its)}}}\n{text}')
+    ran = cluster.run("load", f"{cluster.room}/made")
+    checks.check(ran.stdout == f"{cluster.room}/made: 80 rows are put\n", "load:", ran.stdout, ran.stderr)
+    ran = cluster.run("dump", "--within", "30s")
+    found = re.findall(r"^shard (\d) epoch (\d+) version (\d+) rows (\d+): (\S+) on (m\d)$", ran.stdout, re.M)
+    checks.check(len(found) == 2, "dump:", ran.stdout, ran.stderr)
+    rows = []
+    for shard, epoch, version, count, path, machine in found:
+        with open(path, encoding="utf-8") as it:
+            head, *lines = it.read().splitlines()
+        wanted = {"cluster": "dev", "tag": int(shard), "epoch": int(epoch), "version": int(version), "rows": int(count)}
+        is_so = len(lines) == int(count) and f"{cluster.room}/{machine}/" in path
+        checks.check(is_so and json.loads(head) == wanted, "the head of a dump:", head, wanted, path)
+        rows += [tuple(bytes.fromhex(each).decode("latin-1") for each in json.loads(line)) for line in lines]
+    keys = [key for key, _ in rows]
+    checks.check(its.items() <= dict(rows).items() and len(set(keys)) == len(keys), "rows of dumps:", rows)
+    checks.check(not [key for key in keys if "/session/" in key], "keys of sessions in a dump")
+    cluster.run("clear", "a", "zz", "--within", "20s")
+    ran = cluster.run("load", *(path for *_, path, _ in found))
+    checks.check(ran.stdout.count(" rows are put\n") == 2, "load:", ran.stdout, ran.stderr)
+    for key in ("b0000", "b0039", "t0000", "t0039"):
+        ran = cluster.run("get", key, "--within", "20s")
+        checks.check(ran.stdout == f"{its[key]}\n", "get", key, "of a dump that was loaded:", ran.stdout, ran.stderr)
+    cluster.run("clear", "a", "zz", "--within", "20s")
 
 
 def pages(checks, port):

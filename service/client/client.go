@@ -26,7 +26,7 @@ import (
 // Sessions are the prefixes of the keys that clients keep, \x00/session/ and \xff/session/: the first is in the first
 // shard, the other one mostly in the last. A put writes the one that is in its own shard, if either is: then no more logs
 // and storage servers have to do with it than without.
-var Sessions = []string{"002f73657373696f6e2f", "ff2f73657373696f6e2f"}
+var Sessions = wire.Sessions
 
 // ErrNoCluster says that no machine of the cluster answered in time: nothing was done.
 var ErrNoCluster = errors.New("the cluster does not answer")
@@ -71,6 +71,7 @@ type Client struct {
 	made   int
 	next   uint64
 	width  uint64 // of how many proxies it uses
+	least  uint64 // and at least
 
 	isAsking int32 // 1 while it asks who knows the newest epoch
 }
@@ -100,7 +101,8 @@ func Open(ctx context.Context, its *config.Config) (*Client, error) {
 	if _, err := rand.Read(random); err != nil {
 		return nil, err
 	}
-	c := &Client{config: its, id: hex.EncodeToString(random), next: uint64(random[0]), width: few, later: make(chan struct{})}
+	c := &Client{config: its, id: hex.EncodeToString(random), next: uint64(random[0]), width: few, least: few,
+		later: make(chan struct{})}
 	var err error
 	for {
 		c.bus, err = bus.Connect(its, "client-"+c.id, its.Nkey, nil, time.Second)
@@ -159,7 +161,7 @@ func (c *Client) learn(its *wire.Epoch) {
 	c.mutex.Lock()
 	defer c.mutex.Unlock()
 	if len(its.State.Gens) > 0 && (c.newest == nil || its.Epoch > c.newest.Epoch) {
-		c.newest, c.width = its, few
+		c.newest, c.width = its, c.least
 		close(c.later)
 		c.later = make(chan struct{})
 	}
@@ -303,6 +305,18 @@ func (c *Client) proxy() uint64 {
 		return c.next % c.width
 	}
 	return c.next % c.config.Proxies
+}
+
+// Spread has the client use at least so many proxies, of those that there are.
+func (c *Client) Spread(least uint64) {
+	c.mutex.Lock()
+	defer c.mutex.Unlock()
+	if least > c.least {
+		c.least = least
+	}
+	if c.width < c.least {
+		c.width = c.least
+	}
 }
 
 // widen uses one more proxy: those that it uses have more than one batch takes.

@@ -154,6 +154,7 @@ func (a *Agent) add(order wire.Order, state string) {
 			strconv.FormatUint(n.name.Second, 10))
 	case "storage":
 		a.hear(token, "", func(m *bus.Received) { a.read(n, m) }, "read", strconv.FormatUint(n.name.First, 10))
+		a.hear(token, "", func(m *bus.Received) { a.dump(n, m) }, "dump", strconv.FormatUint(n.name.First, 10))
 	}
 	go n.serve()
 }

@@ -37,6 +37,7 @@ type Room struct {
 	Cluster string `json:"cluster"`
 	Machine string `json:"machine"`
 	Start   Start  `json:"start"`
+	Joined  bool   `json:"joined,omitempty"` // its start is what the configuration said when it was added
 }
 
 // First is the epoch with which each cluster begins.
@@ -117,14 +118,15 @@ func Init(c *config.Config, machine *config.Machine, joins bool) error {
 			return err
 		}
 	}
-	return writeJSON(path, Room{c.Cluster, machine.Name, StartOf(c)})
+	return writeJSON(path, Room{c.Cluster, machine.Name, StartOf(c), joins})
 }
 
 // enter reads and locks the room, and sees that it is this machine's.
 func (a *Agent) enter() error {
 	text, err := os.ReadFile(filepath.Join(a.room, "room.json"))
 	if os.IsNotExist(err) {
-		return fmt.Errorf("%s has no room.json: `fdbrec-service init` makes it, once", a.room)
+		return fmt.Errorf("%s has no room.json: is its disk there? `fdbrec-service init` makes it, once: a machine that was made "+
+			"before and is made again has forgotten what it promised", a.room)
 	}
 	if err != nil {
 		return err

@@ -2,6 +2,7 @@ package agent
 
 import (
 	"encoding/json"
+	"sync"
 	"time"
 
 	"fdbrec/service/internal/names"
@@ -20,6 +21,7 @@ type storage struct {
 	popping map[names.Node]time.Time
 	pops    popStamps
 	reads   []*read
+	dumping sync.Mutex // held while a dump is made
 }
 
 type read struct {

@@ -9,7 +9,8 @@
 //	{"entries":[..],"last":LAST}               entries that answer no line that was given: of begin, back, a crash
 //	{"last":LAST}                              where the node stands, in full, before it is ended
 //
-// A new file begins when one is large and no line is open. Older files are for audits alone, and may be dropped.
+// A new file begins when one is large and no line is open. Older files are for audits alone, and may be dropped: an audit
+// wants all of them, of all nodes.
 package journal
 
 import (
@@ -155,6 +156,35 @@ func isBegun(path string) bool {
 	defer func() { _ = file.Close() }()
 	_, err = bufio.NewReader(file).ReadBytes('\n')
 	return err != io.EOF
+}
+
+// Drop removes the files of a journal that are for audits alone, and says how many they were: all before the newest one
+// that has its first line. It may run beside the journal's agent. What the newest one says is synced first.
+func Drop(folder string) (int, error) {
+	files, err := Files(folder)
+	for len(files) > 0 && !isBegun(files[len(files)-1]) {
+		files = files[:len(files)-1]
+	}
+	if err != nil || len(files) < 2 {
+		return 0, err
+	}
+	newest, err := os.Open(files[len(files)-1])
+	if err != nil {
+		return 0, err
+	}
+	defer func() { _ = newest.Close() }()
+	if err := newest.Sync(); err != nil {
+		return 0, err
+	}
+	if err := syncFolder(folder); err != nil {
+		return 0, err
+	}
+	for at, path := range files[:len(files)-1] {
+		if err := os.Remove(path); err != nil {
+			return at, err
+		}
+	}
+	return len(files) - 1, nil
 }
 
 func (j *Journal) read(path string) error {

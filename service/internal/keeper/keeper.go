@@ -41,7 +41,7 @@ type Keeper struct {
 	open     map[string]openBatch
 	trying   *recovery
 	failed   int
-	refused  int                  // so many recoveries one after another were given up because an agent refused a node
+	refused  int                  // so many, one after another, were given up because a node was refused or the recoverer gone
 	refusing map[string]time.Time // when a machine last did so
 	letting  int                  // orders under way by which nodes are ended that no state names
 	wasWell  bool                 // whether all nodes of an epoch were once well

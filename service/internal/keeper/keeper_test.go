@@ -278,3 +278,53 @@ func TestForgottenRecoverer(t *testing.T) {
 		}
 	}
 }
+
+// A recoverer that is gone at once is followed by another one, the later the more of them were gone: where no node can be
+// started their names would grow without end.
+func TestGoneRecoverers(t *testing.T) {
+	now := time.Now()
+	k := world(now)
+	for at := 0; at < 9; at++ {
+		k.trying = &recovery{ballot: 515, on: "m0", machines: []string{"m0", "m1"}, logs: 2, begun: now, until: now.Add(time.Minute)}
+		k.machines["m0"].alive.Nodes["recoverer-515"] = &wire.NodeView{State: "gone"}
+		k.refused = at
+		longest := time.Duration(0)
+		for range [100]int{} {
+			its := *k.trying
+			k.follow(now)
+			if k.trying != nil || k.refused != at+1 {
+				t.Fatal("it goes on, or is not counted")
+			}
+			if pause := k.rest.Sub(now); pause > longest {
+				longest = pause
+			}
+			k.trying, k.refused = &its, at
+		}
+		most := k.config.Alive << uint(least(uint64(at), 6))
+		if longest >= most || longest < most/4 {
+			t.Errorf("after %d that were gone: the longest of 100 pauses is %v, at most %v is wanted", at, longest, most)
+		}
+	}
+}
+
+// The sequencer and the first proxies are put on a machine without storage servers, if there is a sound one.
+func TestApart(t *testing.T) {
+	k := of("")
+	k.config.Machines = nil
+	for at, storages := range [][]uint64{nil, {0}, {1}, nil, nil} {
+		k.config.Machines = append(k.config.Machines, &config.Machine{Name: fmt.Sprintf("m%d", at), Storages: storages})
+	}
+	for _, row := range []struct {
+		machines string
+		at       uint64
+		wanted   string
+	}{
+		{"m0 m1 m2 m3 m4", 4, "m4 m1 m2 m3 m0"}, {"m1 m2 m3 m4 m0", 1, "m1 m3 m2 m4 m0"}, {"m4 m1 m2", 0, "m4 m1 m2"},
+		{"m2 m1", 1, "m2 m1"}, {"m1 m0", 1, "m1 m0"}, {"m1", 0, "m1"},
+	} {
+		its := strings.Fields(row.machines)
+		if k.setApart(its, row.at); strings.Join(its, " ") != row.wanted {
+			t.Errorf("%s at %d: %v, wanted %s", row.machines, row.at, its, row.wanted)
+		}
+	}
+}

@@ -53,6 +53,7 @@ func (k *Keeper) begin(now time.Time, why string) string {
 	its.machines, its.sound = k.choose(live, now)
 	live = its.machines
 	its.logs, its.degree = least(k.config.Logs, uint64(len(live))), k.config.Degree
+	k.setApart(live[:its.sound], agent.SequencerAt(its.logs)%uint64(its.sound))
 	its.until = now.Add(k.config.Recovery << uint(least(uint64(k.failed), 3)))
 	k.trying = its
 	k.log.Warn("recovery", "ballot", its.ballot, "why", why, "machines", len(live), "logs", its.logs, "degree", its.degree)
@@ -101,6 +102,18 @@ func (k *Keeper) choose(live []string, now time.Time) ([]string, int) {
 		live = live[:sound]
 	}
 	return live, sound
+}
+
+// setApart puts a machine without storage servers at a place, if there is one: the sequencer and the first proxies are to
+// be there. A client whose answer is lost with its proxy asks a storage server what became of its put, so that it would
+// wait until both came back if one machine had both.
+func (k *Keeper) setApart(machines []string, at uint64) {
+	for other, name := range machines {
+		if len(k.config.Machine(name).Storages) == 0 {
+			machines[other], machines[at] = machines[at], machines[other]
+			return
+		}
+	}
 }
 
 // isPoor says whether a machine has little room, or a node there fails, or it refused to start one: others are taken first.
@@ -177,7 +190,9 @@ func (k *Keeper) follow(now time.Time) {
 	case view == nil:
 	case view.State == "gone" || view.State == "ended":
 		k.log.Warn("recovery", "ballot", its.ballot, "given_up", "its recoverer is "+view.State, "why", view.Why)
-		k.giveUp(now, time.Duration(rand.Int63n(int64(k.config.Alive))))
+		// (where no program of a node can be started each one is gone at once: names and folders would grow without end)
+		k.giveUp(now, time.Duration(rand.Int63n(int64(k.config.Alive)))<<uint(least(uint64(k.refused), 6)))
+		k.refused++
 	case k.hasLost(its, now) != "":
 		k.log.Warn("recovery", "ballot", its.ballot, "given_up", k.hasLost(its, now))
 		k.giveUp(now, k.config.Alive)

@@ -31,10 +31,15 @@ func Write(to io.Writer, rooms []string) (nodes, entries int, err error) {
 		if err != nil {
 			return 0, 0, err
 		}
-		if start == nil {
+		if before := droppedOf(room); before > 0 {
+			return 0, 0, fmt.Errorf("%s: its journals of epochs before %d were dropped, and an audit wants all of them", room, before)
+		}
+		switch {
+		case its.Joined: // (logs, degree and proxies may have been changed by then)
+		case start == nil:
 			start = &its.Start
-		} else if fmt.Sprint(*start) != fmt.Sprint(its.Start) {
-			return 0, 0, fmt.Errorf("%s began with another config than %s", room, rooms[0])
+		case fmt.Sprint(*start) != fmt.Sprint(its.Start):
+			return 0, 0, fmt.Errorf("%s began with another config than a room before it", room)
 		}
 		folders, err := filepath.Glob(filepath.Join(room, "journals", "*"))
 		if err != nil {
@@ -52,7 +57,7 @@ func Write(to io.Writer, rooms []string) (nodes, entries int, err error) {
 		}
 	}
 	if start == nil {
-		return 0, 0, fmt.Errorf("no room is named")
+		return 0, 0, fmt.Errorf("no room is named of a machine with which the cluster began")
 	}
 	return write(to, start, found)
 }
@@ -111,6 +116,9 @@ func Read(folder string) (*one, error) {
 		return nil, err
 	}
 	its := &one{Entries: []json.RawMessage{}}
+	if len(files) > 0 && filepath.Base(files[0]) != "000001.jsonl" {
+		return nil, fmt.Errorf("%s: files before %s are gone, and an audit wants all of them", folder, filepath.Base(files[0]))
+	}
 	for _, path := range files {
 		if err := its.take(path); err != nil {
 			return nil, err

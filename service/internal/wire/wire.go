@@ -308,6 +308,37 @@ type Got struct {
 	At      uint64  `json:"at"`
 }
 
+// Dump asks a storage server's agent for a dump of its rows: not before the server is at this epoch and version.
+type Dump struct {
+	Epoch   uint64 `json:"epoch"`
+	Version uint64 `json:"version"`
+	Within  int64  `json:"within_ms"`
+	At      uint64 `json:"at"`
+}
+
+// Dumped says where a dump is, and of what.
+type Dumped struct {
+	Machine string `json:"machine"`
+	Path    string `json:"path"`
+	Epoch   uint64 `json:"epoch"`
+	Version uint64 `json:"version"`
+	Rows    uint64 `json:"rows"`
+	Refused string `json:"refused,omitempty"`
+	At      uint64 `json:"at"`
+}
+
+// DumpHead is the first line of a dump. A line for each row follows, ["KEY","VALUE"] in hex.
+type DumpHead struct {
+	Cluster string `json:"cluster"`
+	Tag     uint64 `json:"tag"`
+	Epoch   uint64 `json:"epoch"`
+	Version uint64 `json:"version"`
+	Rows    uint64 `json:"rows"`
+}
+
+// Sessions are the prefixes of the keys that clients keep, in hex: \x00/session/ and \xff/session/.
+var Sessions = []string{"002f73657373696f6e2f", "ff2f73657373696f6e2f"}
+
 // Moved says that a version was committed.
 type Moved struct {
 	Epoch   uint64 `json:"epoch"`
