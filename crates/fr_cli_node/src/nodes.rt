@@ -50,7 +50,16 @@ pub fn run_node<R: Read, W: Write>(
             tag,
             config,
             folder,
-        } => storage(host, alloc, *tag, config.as_str(), folder, ahead, reader, writer),
+        } => storage(
+            host,
+            alloc,
+            *tag,
+            config.as_str(),
+            folder,
+            ahead,
+            reader,
+            writer,
+        ),
         NodeWords::Proxy {
             epoch,
             number,
@@ -66,7 +75,16 @@ pub fn run_node<R: Read, W: Write>(
             ballot,
             shape,
             config,
-        } => recoverer(host, alloc, *ballot, shape, config.as_str(), ahead, reader, writer),
+        } => recoverer(
+            host,
+            alloc,
+            *ballot,
+            shape,
+            config.as_str(),
+            ahead,
+            reader,
+            writer,
+        ),
     }
 }
 
@@ -134,7 +152,16 @@ fn cell<R: Read, W: Write>(
     writer: &mut W,
 ) -> Result<(), NodeEnd> {
     match folder {
-        Some(folder) => cell_in(host, alloc, folder.as_str(), index, config, ahead, reader, writer),
+        Some(folder) => cell_in(
+            host,
+            alloc,
+            folder.as_str(),
+            index,
+            config,
+            ahead,
+            reader,
+            writer,
+        ),
         None => cell_in_memory(host, alloc, index, config, ahead, reader, writer),
     }
 }
@@ -170,7 +197,14 @@ fn serve_started_cell<R: Read, W: Write>(
     if index >= config.coordinators() {
         return Err(NodeEnd::NotThere);
     }
-    serve_cell(alloc, index, start::cell(alloc, config)?, ahead, reader, writer)
+    serve_cell(
+        alloc,
+        index,
+        start::cell(alloc, config)?,
+        ahead,
+        reader,
+        writer,
+    )
 }
 
 fn serve_cell<R: Read, W: Write>(
@@ -308,7 +342,14 @@ fn log_in<R: Read, W: Write>(
     }
     let device = log_device(host, alloc, folder, &words.id)?;
     let node = log_over(alloc, device, words.id, &words.shape, words.is_started)?;
-    serve_kept(alloc, node, NodeId::Log { epoch, index }, ahead, reader, writer)
+    serve_kept(
+        alloc,
+        node,
+        NodeId::Log { epoch, index },
+        ahead,
+        reader,
+        writer,
+    )
 }
 
 /// Serves a node over its file.

@@ -100,7 +100,7 @@ pub fn answer<T: Acting>(
     ensures works { UnlessCrashed result (T.works node.new ≡ true) }
     ensures refused { Refuses
         (ahead_or (order_is_ahead most (reach_of (T.last_of node.old) (T.entries node.old)) order)
-            (order_refusal (T.refusal node.old) (T.back_refusal node.old) (T.read_refusal node.old) order))
+        (order_refusal (T.refusal node.old) (T.back_refusal node.old) (T.read_refusal node.old) order))
         (order_lacks (T.LacksRoom node.old) order) result }
     ensures untouched { order_is_ahead most (reach_of (T.last_of node.old) (T.entries node.old)) order ≡ true → node.new ≡ node.old }
     ensures left { IfRefused result (T.entries node.new ≡ T.entries node.old) }
