@@ -9,6 +9,7 @@ import tempfile
 
 import built
 import lines
+import lines_ahead
 
 sys.path.insert(0, f"{built.TOP}/python")
 
@@ -72,9 +73,9 @@ def by_hand(checks, command, is_exact, kinds=ALL, files=(False, True)):
                 played(checks, title, words_of, rows, is_exact)
 
 
-def played(checks, title, words, rows, is_exact):
+def played(checks, title, words, rows, is_exact, name=None):
     """Gives a process the lines of some rows, and compares its answers."""
-    name = lines.NAMES[title]
+    name = name or lines.NAMES[title]
     given = [line(name, number, body) for number, (body, _) in enumerate(rows)]
     found, end = answers(words, given)
     checks.check(end == (0, b"") and len(found) == len(rows), title, "ended with", end, len(found))
@@ -92,6 +93,20 @@ def again(checks, command, is_exact, scripts):
             words_of = with_config([*command, *words.split(), "--dir", f"{room}/files"], config, room)
             for rows in processes:
                 played(checks, title, words_of, rows, is_exact)
+
+
+def ahead(checks, command, is_exact):
+    """The scripts of lines_ahead.py, in memory, and over files from process to process."""
+    for title, (words, name, config, rows) in lines_ahead.SCRIPTS.items():
+        with tempfile.TemporaryDirectory() as room:
+            words_of = with_config([*command, *words.split()], config, room)
+            played(checks, title, words_of, rows, is_exact, name)
+    for title, (words, name, config, processes) in lines_ahead.AGAIN.items():
+        with tempfile.TemporaryDirectory() as room:
+            os.mkdir(f"{room}/files")
+            words_of = with_config([*command, *words.split(), "--dir", f"{room}/files"], config, room)
+            for rows in processes:
+                played(checks, title, words_of, rows, is_exact, name)
 
 
 # ---- on a full disk

@@ -55,19 +55,20 @@ _SHAPE = (_number("logs", 1, 16), _number("degree", 1, 16))
 _NEEDED = (_number("logs", 1, 16, is_required=True), _number("degree", 1, 16, is_required=True))
 _CONFIG = _file("config", is_required=True)
 _DIR, _START = _file("dir", "DIR"), Option("start")
+_AHEAD = _wide("most-ahead", is_required=False)
 
 NODE = Command(
     "node",
     below=(
-        Command("cell", (_number("index", 0, 8, is_required=True), _file("config"), _DIR, _START)),
-        Command("log", (_wide("epoch"), _number("index", 0, 15, is_required=True), *_NEEDED, _START, _DIR)),
-        Command("sequencer", (_wide("epoch"), _wide("last"))),
-        Command("storage", (_number("tag", 0, 31, is_required=True), _CONFIG, _DIR)),
+        Command("cell", (_number("index", 0, 8, is_required=True), _file("config"), _DIR, _START, _AHEAD)),
+        Command("log", (_wide("epoch"), _number("index", 0, 15, is_required=True), *_NEEDED, _START, _DIR, _AHEAD)),
+        Command("sequencer", (_wide("epoch"), _wide("last"), _AHEAD)),
+        Command("storage", (_number("tag", 0, 31, is_required=True), _CONFIG, _DIR, _AHEAD)),
         Command(
             "proxy",
-            (_wide("epoch"), _number("number", 0, 15, is_required=True), _wide("known"), *_SHAPE, _CONFIG),
+            (_wide("epoch"), _number("number", 0, 15, is_required=True), _wide("known"), *_SHAPE, _CONFIG, _AHEAD),
         ),
-        Command("recoverer", (_wide("ballot"), *_SHAPE, _CONFIG)),
+        Command("recoverer", (_wide("ballot"), *_SHAPE, _CONFIG, _AHEAD)),
     ),
 )
 CLUSTER = Command(

@@ -4,7 +4,7 @@
 use clap::error::Error;
 use fr_cli_apply::{Ending, own_words, program_command, show};
 use fr_cli_json::CliFault;
-use fr_cli_node::{NodeEnd, NodeWords, node_command, read_node_words, run_node};
+use fr_cli_node::{NodeEnd, NodeStart, node_command, read_node_words, run_node};
 use std::alloc::Global;
 use std::io;
 use std::io::{BufWriter, Read, Write};
@@ -43,7 +43,7 @@ fn run_program<R: Read, W: Write>(
 }
 
 /// Reads the words, the first of which is the program's name.
-fn read_words(alloc: Global, words: &[String]) -> Result<NodeWords, Error> {
+fn read_words(alloc: Global, words: &[String]) -> Result<NodeStart, Error> {
     let program = program_command(alloc).after_help("This program has one command of fdbrec.");
     let program = program.subcommand(node_command(alloc)?)?;
     let matches = program.try_get_matches_from(words)?;

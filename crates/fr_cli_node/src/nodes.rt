@@ -5,7 +5,7 @@ ghost use Rattle.fr_audit_journal.specs.Replays.{ends_by_crash};
 use crate::fault::NodeEnd;
 use crate::files::{cell_device, cell_over, log_device, log_over, storage_over, store_files};
 use crate::serving::{MAX_LINE, serve};
-use crate::words::{LogWords, NodeWords};
+use crate::words::{LogWords, NodeStart, NodeWords};
 use fr_base::{
     Ballot, Bytes, Epoch, InMemory, LogId, Machine, Memory, Node, NodeId, Shape, Tag, Version,
 };
@@ -31,25 +31,35 @@ use std::io::{ErrorKind, Read, Write};
 pub fn run_node<R: Read, W: Write>(
     host: &HostRuntime,
     alloc: Global,
-    words: &NodeWords,
+    words: &NodeStart,
     reader: &mut R,
     writer: &mut W,
 ) -> Result<(), NodeEnd> {
-    match words {
+    let ahead = words.most_ahead;
+    match &words.node {
         NodeWords::Cell {
             index,
             config,
             folder,
-        } => cell(host, alloc, folder, *index, config, reader, writer),
-        NodeWords::Log(words) => log(host, alloc, words, reader, writer),
+        } => cell(host, alloc, folder, *index, config, ahead, reader, writer),
+        NodeWords::Log(words) => log(host, alloc, words, ahead, reader, writer),
         NodeWords::Sequencer { epoch, last } => {
-            serve_sequencer(alloc, *epoch, *last, reader, writer)
+            serve_sequencer(alloc, *epoch, *last, ahead, reader, writer)
         }
         NodeWords::Storage {
             tag,
             config,
             folder,
-        } => storage(host, alloc, *tag, config.as_str(), folder, reader, writer),
+        } => storage(
+            host,
+            alloc,
+            *tag,
+            config.as_str(),
+            folder,
+            ahead,
+            reader,
+            writer,
+        ),
         NodeWords::Proxy {
             epoch,
             number,
@@ -59,13 +69,22 @@ pub fn run_node<R: Read, W: Write>(
         } => {
             let config = config_in(host, alloc, config.as_str())?;
             let proxy = proxy_of(&config, *epoch, *number, *known, shape)?;
-            serve_proxy(alloc, proxy, reader, writer)
+            serve_proxy(alloc, proxy, ahead, reader, writer)
         }
         NodeWords::Recoverer {
             ballot,
             shape,
             config,
-        } => recoverer(host, alloc, *ballot, shape, config.as_str(), reader, writer),
+        } => recoverer(
+            host,
+            alloc,
+            *ballot,
+            shape,
+            config.as_str(),
+            ahead,
+            reader,
+            writer,
+        ),
     }
 }
 
@@ -113,11 +132,12 @@ fn proxy_of(
 fn serve_proxy<R: Read, W: Write>(
     alloc: Global,
     proxy: Proxy,
+    ahead: u64,
     reader: &mut R,
     writer: &mut W,
 ) -> Result<(), NodeEnd> {
     let mut proxy = ProxyNode::new(alloc, proxy);
-    serve(alloc, MAX_LINE, &mut proxy, reader, writer)
+    serve(alloc, MAX_LINE, &mut proxy, ahead, reader, writer)
 }
 
 /// Serves a cell, over its file if a folder is named, else in memory.
@@ -127,12 +147,22 @@ fn cell<R: Read, W: Write>(
     folder: &Option<String>,
     index: u8,
     config: &Option<String>,
+    ahead: u64,
     reader: &mut R,
     writer: &mut W,
 ) -> Result<(), NodeEnd> {
     match folder {
-        Some(folder) => cell_in(host, alloc, folder.as_str(), index, config, reader, writer),
-        None => cell_in_memory(host, alloc, index, config, reader, writer),
+        Some(folder) => cell_in(
+            host,
+            alloc,
+            folder.as_str(),
+            index,
+            config,
+            ahead,
+            reader,
+            writer,
+        ),
+        None => cell_in_memory(host, alloc, index, config, ahead, reader, writer),
     }
 }
 
@@ -142,15 +172,16 @@ fn cell_in_memory<R: Read, W: Write>(
     alloc: Global,
     index: u8,
     config: &Option<String>,
+    ahead: u64,
     reader: &mut R,
     writer: &mut W,
 ) -> Result<(), NodeEnd> {
     match config {
         Some(name) => {
             let config = config_in(host, alloc, name.as_str())?;
-            serve_started_cell(alloc, index, &config, reader, writer)
+            serve_started_cell(alloc, index, &config, ahead, reader, writer)
         }
-        None => serve_cell(alloc, index, Cell::new(alloc), reader, writer),
+        None => serve_cell(alloc, index, Cell::new(alloc), ahead, reader, writer),
     }
 }
 
@@ -159,25 +190,34 @@ fn serve_started_cell<R: Read, W: Write>(
     alloc: Global,
     index: u8,
     config: &Config,
+    ahead: u64,
     reader: &mut R,
     writer: &mut W,
 ) -> Result<(), NodeEnd> {
     if index >= config.coordinators() {
         return Err(NodeEnd::NotThere);
     }
-    serve_cell(alloc, index, start::cell(alloc, config)?, reader, writer)
+    serve_cell(
+        alloc,
+        index,
+        start::cell(alloc, config)?,
+        ahead,
+        reader,
+        writer,
+    )
 }
 
 fn serve_cell<R: Read, W: Write>(
     alloc: Global,
     index: u8,
     cell: Cell,
+    ahead: u64,
     reader: &mut R,
     writer: &mut W,
 ) -> Result<(), NodeEnd> {
     let node = InMemory::new(cell);
     let mut cell = Passive::new(alloc, node, NodeId::Cell { index }, false);
-    serve(alloc, MAX_LINE, &mut cell, reader, writer)
+    serve(alloc, MAX_LINE, &mut cell, ahead, reader, writer)
 }
 
 /// Serves a log, over its file if a folder is named, else in memory.
@@ -185,12 +225,13 @@ fn log<R: Read, W: Write>(
     host: &HostRuntime,
     alloc: Global,
     words: &LogWords,
+    ahead: u64,
     reader: &mut R,
     writer: &mut W,
 ) -> Result<(), NodeEnd> {
     match &words.folder {
-        Some(folder) => log_in(host, alloc, folder.as_str(), words, reader, writer),
-        None => log_in_memory(alloc, words, reader, writer),
+        Some(folder) => log_in(host, alloc, folder.as_str(), words, ahead, reader, writer),
+        None => log_in_memory(alloc, words, ahead, reader, writer),
     }
 }
 
@@ -198,6 +239,7 @@ fn log<R: Read, W: Write>(
 fn log_in_memory<R: Read, W: Write>(
     alloc: Global,
     words: &LogWords,
+    ahead: u64,
     reader: &mut R,
     writer: &mut W,
 ) -> Result<(), NodeEnd> {
@@ -209,7 +251,7 @@ fn log_in_memory<R: Read, W: Write>(
     };
     let place = NodeId::Log { epoch, index };
     let mut log = Passive::new(alloc, InMemory::new(log), place, false);
-    serve(alloc, MAX_LINE, &mut log, reader, writer)
+    serve(alloc, MAX_LINE, &mut log, ahead, reader, writer)
 }
 
 /// A log that was never asked, of a generation of this shape.
@@ -263,6 +305,7 @@ fn cell_in<R: Read, W: Write>(
     folder: &str,
     index: u8,
     config: &Option<String>,
+    ahead: u64,
     reader: &mut R,
     writer: &mut W,
 ) -> Result<(), NodeEnd> {
@@ -272,7 +315,7 @@ fn cell_in<R: Read, W: Write>(
     }
     let device = cell_device(host, alloc, folder, index)?;
     let node = cell_over(alloc, device, &config)?;
-    serve_kept(alloc, node, NodeId::Cell { index }, reader, writer)
+    serve_kept(alloc, node, NodeId::Cell { index }, ahead, reader, writer)
 }
 
 /// Whether a config, if there is one, has so many cells.
@@ -289,6 +332,7 @@ fn log_in<R: Read, W: Write>(
     alloc: Global,
     folder: &str,
     words: &LogWords,
+    ahead: u64,
     reader: &mut R,
     writer: &mut W,
 ) -> Result<(), NodeEnd> {
@@ -298,7 +342,14 @@ fn log_in<R: Read, W: Write>(
     }
     let device = log_device(host, alloc, folder, &words.id)?;
     let node = log_over(alloc, device, words.id, &words.shape, words.is_started)?;
-    serve_kept(alloc, node, NodeId::Log { epoch, index }, reader, writer)
+    serve_kept(
+        alloc,
+        node,
+        NodeId::Log { epoch, index },
+        ahead,
+        reader,
+        writer,
+    )
 }
 
 /// Serves a node over its file.
@@ -306,6 +357,7 @@ fn serve_kept<N: Node + Drop, R: Read, W: Write>(
     alloc: Global,
     node: N,
     place: NodeId,
+    ahead: u64,
     reader: &mut R,
     writer: &mut W,
 ) -> Result<(), NodeEnd>
@@ -316,19 +368,20 @@ where
     requires works { N.is_failed node ≡ false }
 {
     let mut served = Passive::new(alloc, node, place, true);
-    serve(alloc, MAX_LINE, &mut served, reader, writer)
+    serve(alloc, MAX_LINE, &mut served, ahead, reader, writer)
 }
 
 fn serve_sequencer<R: Read, W: Write>(
     alloc: Global,
     epoch: Epoch,
     last: Version,
+    ahead: u64,
     reader: &mut R,
     writer: &mut W,
 ) -> Result<(), NodeEnd> {
     let node = InMemory::new(Sequencer::new(alloc, epoch, last));
     let mut sequencer = Passive::new(alloc, node, NodeId::Sequencer { epoch }, false);
-    serve(alloc, MAX_LINE, &mut sequencer, reader, writer)
+    serve(alloc, MAX_LINE, &mut sequencer, ahead, reader, writer)
 }
 
 /// Serves the storage server of a tag, over files in a folder if one is named, else in memory.
@@ -338,6 +391,7 @@ fn storage<R: Read, W: Write>(
     tag: Tag,
     config: &str,
     folder: &Option<String>,
+    ahead: u64,
     reader: &mut R,
     writer: &mut W,
 ) -> Result<(), NodeEnd> {
@@ -348,11 +402,11 @@ fn storage<R: Read, W: Write>(
     match folder {
         Some(folder) => {
             let files = store_files(host, alloc, folder.as_str(), tag)?;
-            storage_in(alloc, files, tag, &config, shard, reader, writer)
+            storage_in(alloc, files, tag, &config, shard, ahead, reader, writer)
         }
         None => {
             let storage = start::storage(alloc, &config, tag)?;
-            serve_storage(alloc, storage, shard, false, reader, writer)
+            serve_storage(alloc, storage, shard, false, ahead, reader, writer)
         }
     }
 }
@@ -364,11 +418,12 @@ fn storage_in<D: FaithfulDisk + Drop, R: Read, W: Write>(
     tag: Tag,
     config: &Config,
     shard: Shard,
+    ahead: u64,
     reader: &mut R,
     writer: &mut W,
 ) -> Result<(), NodeEnd> {
     let storage = storage_over(alloc, files, tag, config)?;
-    serve_storage(alloc, storage, shard, true, reader, writer)
+    serve_storage(alloc, storage, shard, true, ahead, reader, writer)
 }
 
 /// Serves the storage server of a shard, over a store that outlasts the process if it has files.
@@ -377,13 +432,14 @@ fn serve_storage<S: ShardStore + Drop, R: Read, W: Write>(
     storage: Storage<S>,
     shard: Shard,
     has_files: bool,
+    ahead: u64,
     reader: &mut R,
     writer: &mut W,
 ) -> Result<(), NodeEnd>
     requires works { storage.failed ≡ false }
 {
     let mut storage = StorageNode::new(alloc, storage, shard, has_files);
-    serve(alloc, MAX_LINE, &mut storage, reader, writer)
+    serve(alloc, MAX_LINE, &mut storage, ahead, reader, writer)
 }
 
 /// Serves a recoverer that opens a generation of this shape, or of the shape of the one before.
@@ -393,6 +449,7 @@ fn recoverer<R: Read, W: Write>(
     ballot: Ballot,
     shape: &Option<Shape>,
     config: &str,
+    ahead: u64,
     reader: &mut R,
     writer: &mut W,
 ) -> Result<(), NodeEnd> {
@@ -403,5 +460,5 @@ fn recoverer<R: Read, W: Write>(
     let map = config.map().copy()?;
     let recoverer = Recoverer::begin(alloc, ballot, config.coordinators(), map, *shape);
     let mut recoverer = RecovererNode::new(alloc, recoverer, *shape);
-    serve(alloc, MAX_LINE, &mut recoverer, reader, writer)
+    serve(alloc, MAX_LINE, &mut recoverer, ahead, reader, writer)
 }

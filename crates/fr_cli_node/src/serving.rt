@@ -19,12 +19,13 @@ use std::io::{Read, Write};
 pub const MAX_LINE: usize = 268_435_456;
 
 /// Serves lines to the end of the input, each of at most so many bytes: reads one, answers it, and flushes the answer
-/// before it reads the next. A line that is not done is answered with the reason. A node that cannot go on says so in
-/// its answer, and serves no more.
+/// before it reads the next. A line that is not done is answered with the reason; one with a number that is further
+/// ahead than `ahead` allows is refused. A node that cannot go on says so in its answer, and serves no more.
 pub fn serve<T: Acting, R: Read, W: Write>(
     alloc: Global,
     most: usize,
     node: &mut T,
+    ahead: u64,
     reader: &mut R,
     writer: &mut W,
 ) -> Result<(), NodeEnd>
@@ -34,7 +35,7 @@ pub fn serve<T: Acting, R: Read, W: Write>(
     ensures crashed { IfErr result (EndsBy T.CanCrash) }
 {
     let mut calls = CallCounts::new();
-    serve_counted(alloc, most, &mut calls, node, reader, writer)
+    serve_counted(alloc, most, &mut calls, node, ahead, reader, writer)
 }
 
 /// As [`serve`], with the calls of the writer counted in `calls`, which has none yet: `Output` is answered only if a
@@ -44,6 +45,7 @@ pub fn serve_counted<T: Acting, R: Read, W: Write>(
     most: usize,
     calls: &mut CallCounts,
     node: &mut T,
+    ahead: u64,
     reader: &mut R,
     writer: &mut W,
 ) -> Result<(), NodeEnd>
@@ -67,7 +69,7 @@ pub fn serve_counted<T: Acting, R: Read, W: Write>(
             Found::Line(text) => read_line(alloc, node.place(), text.as_slice()),
         };
         let Line { envelope, order } = line;
-        let done = do_line(alloc, node, order);
+        let done = do_line(alloc, node, ahead, order);
         let crash = crash_of(&done);
         put_answer(alloc, calls, node.place(), &envelope, done, writer)?;
         if let Some(crash) = crash {
@@ -88,6 +90,7 @@ fn unread(fault: CliFault) -> NodeEnd
 fn do_line<T: Acting>(
     alloc: Global,
     node: &mut T,
+    ahead: u64,
     order: Result<NodeRequest, BadLine>,
 ) -> Result<NodeReply, LineFault>
     requires works { T.works node.old ≡ true }
@@ -102,7 +105,7 @@ fn do_line<T: Acting>(
     ensures crashed { IfSome (crash_in result) (λ why. IsEnd T.CanCrash why) }
 {
     match order {
-        Ok(order) => match answer(alloc, node, order) {
+        Ok(order) => match answer(alloc, node, order, ahead) {
             Ok(reply) => Ok(reply),
             Err(fault) => Err(LineFault::Turn(fault)),
         },

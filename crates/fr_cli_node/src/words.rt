@@ -5,6 +5,14 @@ use fr_base::{Ballot, Epoch, LogId, Shape, Tag, Version};
 use fr_cli_apply::bad_words;
 use std::alloc::{AllocError, Global};
 
+/// What the words say: which node is served, and how far ahead numbers of lines may be, in rounds, stamps, or versions
+/// of so many commits.
+#[derive(Debug, Drop, PartialEq, Eq)]
+pub struct NodeStart {
+    pub node: NodeWords,
+    pub most_ahead: u64,
+}
+
 /// Which node the words name, and how it begins.
 #[derive(Debug, Drop, PartialEq, Eq)]
 pub enum NodeWords {
@@ -82,7 +90,8 @@ fn cell_command<'a>(alloc: Global) -> Result<Command<'a>, Error> {
         .arg(few(alloc, "index", "Its number, 0 to 8", 0, 8).required(true))?
         .arg(config_word(alloc).help("The file that holds the config of the world, with --start"))?
         .arg(folder_word(alloc))?
-        .arg(start_word(alloc))?;
+        .arg(start_word(alloc))?
+        .arg(ahead_word(alloc))?;
     Ok(cell)
 }
 
@@ -101,7 +110,8 @@ fn log_command<'a>(alloc: Global) -> Result<Command<'a>, Error> {
         )
         .required(true))?
         .arg(folder_word(alloc))?
-        .arg(start_word(alloc))?;
+        .arg(start_word(alloc))?
+        .arg(ahead_word(alloc))?;
     Ok(log)
 }
 
@@ -114,7 +124,8 @@ fn sequencer_command<'a>(alloc: Global) -> Result<Command<'a>, Error> {
             "last",
             "The version that it begins from, that of the mark",
         )
-        .required(true))?;
+        .required(true))?
+        .arg(ahead_word(alloc))?;
     Ok(sequencer)
 }
 
@@ -123,7 +134,8 @@ fn storage_command<'a>(alloc: Global) -> Result<Command<'a>, Error> {
         .about("A storage server")
         .arg(few(alloc, "tag", "Its tag, 0 to 31", 0, 31).required(true))?
         .arg(config_word(alloc).required(true))?
-        .arg(folder_word(alloc))?;
+        .arg(folder_word(alloc))?
+        .arg(ahead_word(alloc))?;
     Ok(storage)
 }
 
@@ -152,7 +164,8 @@ fn proxy_command<'a>(alloc: Global) -> Result<Command<'a>, Error> {
             1,
             16,
         ))?
-        .arg(config_word(alloc).required(true))?;
+        .arg(config_word(alloc).required(true))?
+        .arg(ahead_word(alloc))?;
     Ok(proxy)
 }
 
@@ -174,7 +187,8 @@ fn recoverer_command<'a>(alloc: Global) -> Result<Command<'a>, Error> {
             1,
             16,
         ))?
-        .arg(config_word(alloc).required(true))?;
+        .arg(config_word(alloc).required(true))?
+        .arg(ahead_word(alloc))?;
     Ok(recoverer)
 }
 
@@ -222,6 +236,17 @@ fn read_folder(alloc: Global, matches: &ArgMatches<'_>) -> Result<Option<String>
     }
 }
 
+/// How far ahead numbers may be. No run takes 2^32 rounds, stamps or commits at one step, and it leaves most of the 2^40
+/// rounds and stamps that there are.
+fn ahead_word<'a>(alloc: Global) -> Arg<'a> {
+    number(
+        alloc,
+        "most-ahead",
+        "How far ahead a line's numbers may be: so many rounds, stamps or commits",
+    )
+    .default_value("4294967296")
+}
+
 fn start_word<'a>(alloc: Global) -> Arg<'a> {
     Arg::new(alloc, "start")
         .long("start")
@@ -232,15 +257,26 @@ fn start_word<'a>(alloc: Global) -> Arg<'a> {
 /// Reads which node the words of `node` name. clap has refused most mistakes before. Left are a number beyond the
 /// limits of its type, a degree above the number of logs or one of these two without the other, and a cell with only
 /// one of its start and its config.
-pub fn read_node_words(alloc: Global, matches: &ArgMatches<'_>) -> Result<NodeWords, Error> {
+pub fn read_node_words(alloc: Global, matches: &ArgMatches<'_>) -> Result<NodeStart, Error> {
     match read_kind(alloc, matches)? {
-        Some(words) => Ok(words),
+        Some(node) => Ok(NodeStart {
+            node,
+            most_ahead: read_ahead(matches),
+        }),
         None => {
             let message =
                 "a number is beyond its limits, or a word is there without the one that goes with it";
             let node = node_command(alloc)?;
             Err(bad_words(node, "fdbrec node", ErrorKind::ValueValidation, message)?)
         }
+    }
+}
+
+/// How far ahead numbers may be, which has a default for each kind.
+fn read_ahead(matches: &ArgMatches<'_>) -> u64 {
+    match matches.subcommand() {
+        Some((_, words)) => words.get_one::<u64>("most-ahead").unwrap_or(0),
+        None => 0,
     }
 }
 

@@ -1,6 +1,7 @@
 pub mod Kinds
 pub mod Stands
 pub mod Courses
+pub mod Ahead
 pub mod Faults
 pub mod Turns
 pub mod Passive

@@ -1,8 +1,10 @@
 //! Nodes that a process serves.
 ghost use Rattle.std.specs.Prelude.{◌≡◌, ◌++◌, true, IfOk, OnOk};
+ghost use Rattle.fr_node.specs.Ahead.{reach_of};
 ghost use Rattle.fr_node.specs.Stands.{stand_of};
 ghost use Rattle.fr_node.specs.Turns.{IfCrashed, IfRefused, IsBack, IsTaken, Refuses, RefusesFor, UnlessCrashed};
 
+use crate::ahead::Reach;
 use crate::fault::NodeTurnFault;
 use crate::stand::{Stand, stand_from};
 use crate::turn::{Hearing, NodeTurn, Round};
@@ -65,6 +67,11 @@ pub trait Acting {
     /// The node.
     fn place(&self) -> NodeId
         ensures { result ≡ node self.now };
+
+    /// How far it is.
+    fn reach(&self) -> Reach
+        requires works { works self.now ≡ true }
+        ensures { result ≡ reach_of (last_of self.now) (entries self.now) };
 
     /// Takes a turn, above the stamp that the asker has seen, and answers what is entered. A turn that is refused
     /// changes nothing that others see. It is refused for the reason of `refusal`, and else as `Full` alone, only if a

@@ -1,8 +1,10 @@
 //! Machines of nodes that answer asks: cells, logs and sequencers.
-ghost use Rattle.std.specs.Prelude.{◌≡◌, Some, IfSome};
+ghost use Rattle.std.specs.Prelude.{◌≡◌, None, Some, IfSome};
+ghost use Rattle.fr_node.specs.Ahead.{ballot_in, version_in};
 
 use fr_ask::{Ask, SeqAsk};
 use fr_audit_journal::Housable;
+use fr_base::Ballot;
 use fr_log::{Log, LogAsk};
 use fr_proxy::Sequencer;
 use fr_register::{Cell, CellAsk};
@@ -13,6 +15,11 @@ pub trait Answering: Housable {
     fn unwrap(ask: Ask) -> Option<Self::Ask>
         ensures value { result ≡ Self.unwrapped ask }
         ensures back { IfSome result (λ own. Self.wrapped own ≡ ask) };
+
+    /// The ballot that it promised, if it is a cell. None of these machines applies versions.
+    fn promise(&self) -> Option<Ballot>
+        ensures value { result ≡ ballot_in (Self.last_of self.now) }
+        ensures no_version { version_in (Self.last_of self.now) ≡ None };
 }
 
 impl Answering for Cell {
@@ -22,6 +29,10 @@ impl Answering for Cell {
             Ask::Log(_) => None,
             Ask::Seq(_) => None,
         }
+    }
+
+    fn promise(&self) -> Option<Ballot> {
+        Some(self.promised())
     }
 }
 
@@ -33,6 +44,10 @@ impl Answering for Log {
             Ask::Seq(_) => None,
         }
     }
+
+    fn promise(&self) -> Option<Ballot> {
+        None
+    }
 }
 
 impl Answering for Sequencer {
@@ -42,5 +57,9 @@ impl Answering for Sequencer {
             Ask::Log(_) => None,
             Ask::Seq(ask) => Some(ask),
         }
+    }
+
+    fn promise(&self) -> Option<Ballot> {
+        None
     }
 }

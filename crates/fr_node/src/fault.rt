@@ -5,6 +5,9 @@ use thiserror::Error;
 /// Why a node refuses a turn or a read. A refusal changes nothing. Of several reasons the first of these variants is told.
 #[derive(Clone, Copy, Debug, PartialEq, Eq, Error)]
 pub enum TurnRefusal {
+    /// A ballot, a stamp or a version is further ahead than the node may follow at once.
+    #[error("TooFar")]
+    TooFar,
     /// A node of its kind takes no such turn.
     #[error("NotTaken")]
     NotTaken,

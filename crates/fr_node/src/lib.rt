@@ -3,6 +3,7 @@
 #![tactic(auto)]
 
 mod acting;
+mod ahead;
 mod answering;
 mod begun;
 mod course;
@@ -20,6 +21,7 @@ mod turn;
 mod wants;
 
 pub use acting::Acting;
+pub use ahead::{Reach, is_ahead};
 pub use answering::Answering;
 pub use course::Course;
 pub use fault::{Crash, NodeTurnFault, TurnRefusal};

@@ -7,6 +7,7 @@ ghost use Rattle.fr_node.specs.Passive.{back_refusal, IsOnlyCrash};
 ghost use Rattle.fr_node.specs.Turns.{IfCrashed, IsBack, RefusesFor};
 
 use crate::acting::Acting;
+use crate::ahead::Reach;
 use crate::answering::Answering;
 use crate::course::Course;
 use crate::fault::{NodeTurnFault, TurnRefusal};
@@ -167,6 +168,14 @@ where
 
     fn place(&self) -> NodeId {
         self.course.node()
+    }
+
+    fn reach(&self) -> Reach {
+        Reach {
+            ballot: self.node.plain().promise(),
+            stamp: self.course.last_stamp(),
+            version: None,
+        }
     }
 
     fn act(&mut self, alloc: Global, at: Stamp, turn: NodeTurn) -> Result<Entry, NodeTurnFault> {

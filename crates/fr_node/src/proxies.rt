@@ -8,7 +8,7 @@ ghost use Rattle.fr_node.specs.declared.turn.NodeTurn.{NodeTurn};
 ghost use Rattle.fr_node.specs.Turns.{IfCrashed, IfRefused, IsTaken, RefusesFor};
 
 use crate::{
-    Acting, Course, Hearing, NodeTurn, NodeTurnFault, Round, TurnRefusal, Wants, stamp_above,
+    Acting, Course, Hearing, NodeTurn, NodeTurnFault, Reach, Round, TurnRefusal, Wants, stamp_above,
 };
 use fr_ask::{Last, Tell};
 use fr_audit_journal::{Act, Entry};
@@ -167,6 +167,14 @@ impl Acting for ProxyNode {
 
     fn place(&self) -> NodeId {
         self.course.node()
+    }
+
+    fn reach(&self) -> Reach {
+        Reach {
+            ballot: None,
+            stamp: self.course.last_stamp(),
+            version: None,
+        }
     }
 
     fn act(&mut self, alloc: Global, at: Stamp, turn: NodeTurn) -> Result<Entry, NodeTurnFault> {

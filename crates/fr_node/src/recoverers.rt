@@ -10,7 +10,7 @@ ghost use Rattle.fr_node.specs.Turns.{IfCrashed, IfRefused, IsTaken, RefusesFor}
 
 use crate::course::heard_at;
 use crate::{
-    Acting, Course, Hearing, NodeTurn, NodeTurnFault, Round, TurnRefusal, Wants, stamp_above,
+    Acting, Course, Hearing, NodeTurn, NodeTurnFault, Reach, Round, TurnRefusal, Wants, stamp_above,
 };
 use fr_ask::{Last, Tell};
 use fr_audit_journal::{Act, Entry};
@@ -174,6 +174,14 @@ impl Acting for RecovererNode {
 
     fn place(&self) -> NodeId {
         self.course.node()
+    }
+
+    fn reach(&self) -> Reach {
+        Reach {
+            ballot: None,
+            stamp: self.course.last_stamp(),
+            version: None,
+        }
     }
 
     fn act(&mut self, alloc: Global, at: Stamp, turn: NodeTurn) -> Result<Entry, NodeTurnFault> {

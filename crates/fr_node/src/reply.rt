@@ -1,11 +1,13 @@
 //! What a process is asked of its node, and what it answers.
 ghost use Rattle.std.specs.Prelude.{◌≡◌, true, None, IfOk, IfSome};
 ghost use Rattle.fr_node.specs.declared.reply.NodeRequest.{NodeRequest};
+ghost use Rattle.fr_node.specs.Ahead.{ahead_or, order_is_ahead, reach_of};
 ghost use Rattle.fr_node.specs.Answers.{IsAnswer, order_lacks, order_refusal};
 ghost use Rattle.fr_node.specs.Turns.{IfCrashed, IfRefused, Refuses, UnlessCrashed};
 
 use crate::acting::Acting;
-use crate::fault::NodeTurnFault;
+use crate::ahead::{is_ahead, stamp_is_ahead};
+use crate::fault::{NodeTurnFault, TurnRefusal};
 use crate::stand::Stand;
 use crate::turn::{Hearing, Kind, Newest, NodeTurn, Round};
 use crate::wants::Wants;
@@ -81,11 +83,13 @@ pub enum NodeReply {
     },
 }
 
-/// Does what is asked of a node, and answers it.
+/// Does what is asked of a node, and answers it. A turn or a start is refused as `TooFar`, before anything else is looked
+/// at, if a number of it is further ahead than so many rounds, stamps, or versions of so many commits.
 pub fn answer<T: Acting>(
     alloc: Global,
     node: &mut T,
     order: NodeRequest,
+    most: u64,
 ) -> Result<NodeReply, NodeTurnFault>
     requires works { T.works node.old ≡ true }
     ensures node { T.node node.new ≡ T.node node.old }
@@ -94,7 +98,11 @@ pub fn answer<T: Acting>(
         (record { node = T.node node.new; entries = T.entries node.new; last = T.last_of node.new; wanted = T.wanted node.new; read = T.value_at node.new })
         order reply) }
     ensures works { UnlessCrashed result (T.works node.new ≡ true) }
-    ensures refused { Refuses (order_refusal (T.refusal node.old) (T.back_refusal node.old) (T.read_refusal node.old) order) (order_lacks (T.LacksRoom node.old) order) result }
+    ensures refused { Refuses
+        (ahead_or (order_is_ahead most (reach_of (T.last_of node.old) (T.entries node.old)) order)
+        (order_refusal (T.refusal node.old) (T.back_refusal node.old) (T.read_refusal node.old) order))
+        (order_lacks (T.LacksRoom node.old) order) result }
+    ensures untouched { order_is_ahead most (reach_of (T.last_of node.old) (T.entries node.old)) order ≡ true → node.new ≡ node.old }
     ensures left { IfRefused result (T.entries node.new ≡ T.entries node.old) }
     ensures stands { IfRefused result (T.last_of node.new ≡ T.last_of node.old) }
     ensures crashed { IfCrashed result T.CanCrash }
@@ -117,12 +125,20 @@ pub fn answer<T: Acting>(
             let value = node.read(alloc, &key, version)?;
             Ok(NodeReply::Read { value })
         }
-        NodeRequest::Take { at, turn, is_whole } => take(alloc, node, at, turn, is_whole),
+        NodeRequest::Take { at, turn, is_whole } => {
+            if is_ahead(most, &node.reach(), at, &turn) {
+                return Err(NodeTurnFault::Refused(TurnRefusal::TooFar));
+            }
+            take(alloc, node, at, turn, is_whole)
+        }
         NodeRequest::Back {
             at,
             hearing,
             is_whole,
         } => {
+            if stamp_is_ahead(most, &node.reach(), at) {
+                return Err(NodeTurnFault::Refused(TurnRefusal::TooFar));
+            }
             let entries = node.back(alloc, at, hearing)?;
             let stand = node.stand(alloc, is_whole)?;
             Ok(NodeReply::Back { entries, stand })

@@ -16,8 +16,8 @@ use crate::begun::part_of;
 use crate::pulls::asks_at;
 use crate::reads::{end_of, last_said, value_said};
 use crate::{
-    Acting, Course, Crash, Hearing, NodeTurn, NodeTurnFault, Round, Stand, TurnRefusal, Wants,
-    crash_at, stamp_above,
+    Acting, Course, Crash, Hearing, NodeTurn, NodeTurnFault, Reach, Round, Stand, TurnRefusal,
+    Wants, crash_at, stamp_above,
 };
 use fr_ask::{Last, Tell};
 use fr_audit_journal::{Act, Entry};
@@ -292,6 +292,15 @@ impl<S: ShardStore> Acting for StorageNode<S> {
 
     fn place(&self) -> NodeId {
         self.course.node()
+    }
+
+    fn reach(&self) -> Reach {
+        let (epoch, version) = self.storage.position();
+        Reach {
+            ballot: Some(epoch.ballot()),
+            stamp: self.course.last_stamp(),
+            version: Some(version),
+        }
     }
 
     fn act(&mut self, alloc: Global, at: Stamp, turn: NodeTurn) -> Result<Entry, NodeTurnFault> {

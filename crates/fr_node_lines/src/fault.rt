@@ -186,6 +186,7 @@ fn bad_text(bad: BadLine) -> &'static str {
 /// The name of a refusal.
 fn refusal_text(why: TurnRefusal) -> &'static str {
     match why {
+        TurnRefusal::TooFar => "TooFar",
         TurnRefusal::NotTaken => names::TYPE,
         TurnRefusal::OtherAsk => names::ASK,
         TurnRefusal::NotBegun => "NotBegun",

@@ -213,6 +213,11 @@ func (a *Agent) closeJournal(name names.Node, its *journal.Journal) {
 	}
 }
 
+// mostAhead is how far ahead of a node the numbers of a line may be: beyond any stamp. The bus judges the stamps of messages
+// by this agent's clock, which hears of each of them. A node knows its own last entry alone, and a cell that nobody asked
+// for days is rightly behind by more than the 2^32 that a node takes if it is told nothing.
+const mostAhead = uint64(1) << 40
+
 // words are the program of a node and its words.
 func (a *Agent) words(order wire.Order) ([]string, error) {
 	its := append([]string(nil), a.config.Program(order.Node.Kind)...)
@@ -225,6 +230,7 @@ func (a *Agent) words(order wire.Order) ([]string, error) {
 		its = append(its, "--"+name, fmt.Sprint(number))
 	}
 	its = append(its, order.Words()...)
+	its = append(its, "--most-ahead", fmt.Sprint(mostAhead))
 	if order.Node.HasFiles() {
 		its = append(its, "--dir", filepath.Join(a.room, "files"))
 	}

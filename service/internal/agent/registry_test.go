@@ -2,9 +2,13 @@ package agent
 
 import (
 	"fmt"
+	"strings"
 	"testing"
 
+	"fdbrec/service/internal/bus"
 	"fdbrec/service/internal/config"
+	"fdbrec/service/internal/names"
+	"fdbrec/service/internal/wire"
 )
 
 // Each node of the start is on one machine, each log on another one, and the first two proxies beside the sequencer.
@@ -45,5 +49,21 @@ func TestFirstNodes(t *testing.T) {
 				}
 			}
 		}
+	}
+}
+
+// A node judges no stamp: whatever the bus takes is not too far ahead of it.
+func TestMostAhead(t *testing.T) {
+	a := &Agent{config: &config.Config{Node: []string{"fdbrec", "node"}}}
+	order := wire.Order{Node: names.Node{Kind: "sequencer", First: 257}, Last: 1}
+	its, err := a.words(order)
+	wanted := "fdbrec node sequencer --epoch 257 --last 1 --most-ahead 1099511627776"
+	if found := strings.Join(its, " "); err != nil || found != wanted {
+		t.Errorf("%s and not %s: %v", found, wanted, err)
+	}
+	clock := &bus.Clock{}
+	clock.See(mostAhead - 1)
+	if clock.Takes(mostAhead) {
+		t.Errorf("the bus takes the stamp %d", mostAhead)
 	}
 }
