@@ -68,6 +68,8 @@ def commit():
 class Service:
     """Five agents with their nodes, two keepers, and brokers."""
 
+    patience = 30  # seconds until a machine that was killed is back
+
     def __init__(self, room, name, journals, brokers, detector=None, values=None):
         self.name, self.count, self.ran = name, 0, False
         alive, suspect = detector or USUAL
@@ -135,7 +137,7 @@ class Service:
             self.cluster.start(each)
         for each in group:
             if each.startswith("m"):
-                until(lambda: self.is_whole(each), 120, f"{each} does not come back")
+                until(lambda: self.is_whole(each), self.patience, f"{each} does not come back")
 
     def is_whole(self, name):
         its = self.cluster.standing()["machines"].get(name)
