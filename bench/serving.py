@@ -40,8 +40,8 @@ def until(what, seconds, why):
 
 
 def ready(node, commands=(), sources=(), packages=""):
-    """Names all that is missing, or builds the service, and says which program the nodes are: `node`, or the one of this
-    checkout, or for `foreign` the one in Python."""
+    """Names all that is missing, or builds the service, and says which program the nodes are: `node`, or the one of
+    this checkout, or for `foreign` the one in Python."""
     missing = [name for name in ("go", "nats-server", *commands) if not shutil.which(name)]
     missing += [each for each in ("github.com/nats-io/nats.go", *sources) if not os.path.isdir(f"{GO}/{each}")]
     if missing:
@@ -67,6 +67,8 @@ def commit():
 
 class Service:
     """Five agents with their nodes, two keepers, and brokers."""
+
+    patience = 30  # seconds until a machine that was killed is back
 
     def __init__(self, room, name, journals, brokers, detector=None, values=None):
         self.name, self.count, self.ran = name, 0, False
@@ -101,7 +103,7 @@ class Service:
         return found | {pid: name.split()[1] + "s" for name, pid in self.cluster.node_pids().items()}
 
     def load(self, clients, seconds, trace=None):
-        words = self.cluster.command("bench", "--clients", str(clients), "--seconds", str(seconds))
+        words = self.cluster.command("bench", "--clients", str(clients), "--seconds", str(seconds), "--within", "60s")
         return words + (["--trace", trace] if trace else [])
 
     def epoch(self):
@@ -121,21 +123,23 @@ class Service:
             for each in group:
                 self.cluster.its[each].wait()
             return when, group
-        epoch = until(self.epoch, 20, "no epoch")
-        nodes = self.cluster.node_pids()
-        its = sorted((name, pid) for name, pid in nodes.items() if f" {what} --epoch {epoch}" in name)
-        if not its:
-            fail(f"there is no {what} of epoch {epoch}: {sorted(nodes)}")
+        # (a recovery may be under way)
+        its = until(lambda: self.of_newest(what), 20, f"there is no {what} of the newest epoch")
         when = time.time_ns()
         os.kill(its[self.count % len(its)][1], signal.SIGKILL)
         return when, []
+
+    def of_newest(self, what):
+        """The nodes of a kind of the newest epoch, with their processes."""
+        epoch = self.epoch()
+        return sorted(it for it in self.cluster.node_pids().items() if f" {what} --epoch {epoch}" in it[0]) or None
 
     def mend(self, group):
         for each in group:
             self.cluster.start(each)
         for each in group:
             if each.startswith("m"):
-                until(lambda: self.is_whole(each), 120, f"{each} does not come back")
+                until(lambda: self.is_whole(each), self.patience, f"{each} does not come back")
 
     def is_whole(self, name):
         its = self.cluster.standing()["machines"].get(name)
@@ -174,10 +178,14 @@ class Trace:
 def killed(system, what, count, room, ends, around=contextlib.nullcontext):
     """The pauses after so many kills, or as many as there is time for. Each is within what `around` makes."""
     path = f"{room}/trace-{time.monotonic_ns()}"
-    load = subprocess.Popen(system.load(LOAD, 100000, path), stdout=subprocess.DEVNULL, stderr=subprocess.DEVNULL)
+    with open(f"{path}-said", "wb") as said:
+        load = subprocess.Popen(system.load(LOAD, 100000, path), stdout=said, stderr=said)
     trace, found = Trace(path), []
     try:
-        until(lambda: trace.since(0) > 20, 60, f"{system.name}: no commits")
+        until(lambda: trace.since(0) > 20 or load.poll() is not None, 60, f"{system.name}: no commits")
+        if load.poll() is not None:
+            with open(f"{path}-said", encoding="utf-8") as said:
+                raise Stuck(f"{system.name}: the load ended: {said.read()}")
         while len(found) < count and (time.monotonic() < ends or not found):
             time.sleep(0.4)
             with around():
