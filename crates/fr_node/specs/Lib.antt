@@ -3,6 +3,7 @@ pub mod Stands
 pub mod Courses
 pub mod Faults
 pub mod Turns
+pub mod Groups
 pub mod Passive
 pub mod Answers
 pub mod Leads
