@@ -1,7 +1,7 @@
 -- Several turns as one group.
 use Rattle.std.proofs.Common.{refl, sym, subst, ap, ◌∙◌, arith, append_assoc}
-use Rattle.std.proofs.lemmas.List.{append-nil}
-use Rattle.std.specs.Prelude.{ℕ, Bool, true, false, ◌≡◌, ◌<◌, ◌==◌, ◌+◌, ◌-◌, ◌^◌, max, ◌++◌, List, [], ◌∷◌, length, map, cond, Option, None, Some}
+use Rattle.std.proofs.lemmas.List.{append-nil, drop_more}
+use Rattle.std.specs.Prelude.{ℕ, Bool, true, false, ◌≡◌, ◌<◌, ◌==◌, ◌+◌, ◌-◌, ◌^◌, max, ◌++◌, List, [], ◌∷◌, length, get_or, drop, map, cond, Option, None, Some}
 use Rattle.std.specs.Option.{option_map, option_and_then}
 use Rattle.fr_base.specs.declared.place.NodeId.{NodeId}
 use Rattle.fr_ask.specs.declared.ask.Ask.{Ask}
@@ -171,3 +171,53 @@ above-last (e ∷ es) stamp h = h
 
 pub last-entered : (es longer : List Entry) (e : Entry) → longer ≡ es ++ e ∷ [] → last_number longer ≡ e.stamp
 last-entered es longer e is = ap last_number is ∙ ap Rattle.fr_audit_journal.specs.Housing.number_or_zero (last-with es e)
+
+-- ---- loops whose result is there or not
+
+pub map-none : {A : Type 0} (xs : List A) (o : Option (List A)) → xs ≡ [] → option_map (λ ys. xs ++ ys) o ≡ o
+map-none xs None none = refl
+map-none xs (Some ys) none = ap (λ l. Some (l ++ ys)) none
+
+pub map-step : {A : Type 0} (done longer : List A) (x : A) (o : Option (List A)) → longer ≡ done ++ x ∷ []
+    → option_map (λ ys. longer ++ ys) o ≡ option_map (λ ys. done ++ ys) (option_map (λ ys. x ∷ ys) o)
+map-step done longer x None is = refl
+map-step done longer x (Some ys) is = ap Some (ap (λ l. l ++ ys) is ∙ append_assoc done (x ∷ []) ys)
+
+pub map-end : {A : Type 0} (done : List A) → option_map (λ ys. done ++ ys) (Some []) ≡ Some done
+map-end done = ap Some (append-nil done)
+
+next-of : {X : Type 0} (xs : List X) (i : ℕ) (x : X) → i < length xs → x ≡ get_or xs i x → drop i xs ≡ x ∷ drop (i + 1) xs
+next-of xs i x h is = drop_more xs i x h ∙ ap (λ y. y ∷ drop (i + 1) xs) (sym is)
+
+pub drafts-step : (last i : ℕ) (ts : List (ℕ × NodeTurn)) (t : ℕ × NodeTurn) (d : Draft) → i < length ts → t ≡ get_or ts i t → draft_of last t.0 t.1 ≡ Some d
+    → drafts_of last (drop i ts) ≡ option_map (λ ds. d ∷ ds) (drafts_of d.stamp (drop (i + 1) ts))
+drafts-step last i ts t d h is one =
+    ap (drafts_of last) (next-of ts i t h is)
+    ∙ ap (option_and_then (λ (x : Draft). option_map (λ ds. x ∷ ds) (drafts_of x.stamp (drop (i + 1) ts)))) one
+
+pub drafts-none : (last i : ℕ) (ts : List (ℕ × NodeTurn)) (t : ℕ × NodeTurn) → i < length ts → t ≡ get_or ts i t → draft_of last t.0 t.1 ≡ None
+    → drafts_of last (drop i ts) ≡ None
+drafts-none last i ts t h is one =
+    ap (drafts_of last) (next-of ts i t h is)
+    ∙ ap (option_and_then (λ (x : Draft). option_map (λ ds. x ∷ ds) (drafts_of x.stamp (drop (i + 1) ts)))) one
+
+pub owned-step : {A : Type 0} (owned : Ask → Option A) (i : ℕ) (ds : List Draft) (d : Draft) (a : A) → i < length ds → d ≡ get_or ds i d → owned d.ask ≡ Some a
+    → owned_all owned (drop i ds) ≡ option_map (λ rest. a ∷ rest) (owned_all owned (drop (i + 1) ds))
+owned-step owned i ds d a h is one =
+    ap (owned_all owned) (next-of ds i d h is)
+    ∙ ap (option_and_then (λ x. option_map (λ rest. x ∷ rest) (owned_all owned (drop (i + 1) ds)))) one
+
+pub owned-none : {A : Type 0} (owned : Ask → Option A) (i : ℕ) (ds : List Draft) (d : Draft) → i < length ds → d ≡ get_or ds i d → owned d.ask ≡ None
+    → owned_all owned (drop i ds) ≡ None
+owned-none owned i ds d h is one =
+    ap (owned_all owned) (next-of ds i d h is)
+    ∙ ap (option_and_then (λ x. option_map (λ rest. x ∷ rest) (owned_all owned (drop (i + 1) ds)))) one
+
+-- ---- loops that put entries behind others
+
+pub entered-step : (ds rest : List Draft) (xs more : List Tell) (d : Draft) (x : Tell) (es longer total : List Entry)
+    → ds ≡ d ∷ rest → xs ≡ x ∷ more → longer ≡ es ++ record { stamp = d.stamp; act = act.Asked d.from d.ask x } ∷ []
+    → es ++ entered ds xs ≡ total → longer ++ entered rest more ≡ total
+entered-step ds rest xs more d x es longer total is told put inv =
+    let e : Entry = record { stamp = d.stamp; act = act.Asked d.from d.ask x } in
+    ap (λ l. l ++ entered rest more) put ∙ (append_assoc es (e ∷ []) (entered rest more) ∙ (ap (λ l. es ++ l) (sym (ap (λ l. entered l xs) is ∙ ap (entered (d ∷ rest)) told)) ∙ inv))
