@@ -12,7 +12,7 @@ use Rattle.fr_audit_journal.specs.declared.act.Act.TheVariants as act
 use Rattle.fr_audit_journal.specs.declared.act.Entry.{Entry}
 use Rattle.fr_audit_journal.specs.Housing.{last_number}
 use Rattle.fr_audit_journal.specs.Journal.{IsAbove}
-use Rattle.fr_audit_journal.specs.Replays.{Steps, told_at, after_at, after_act, state_after}
+use Rattle.fr_audit_journal.specs.Replays.{Steps, steps, told_at, after_at, after_act, state_after}
 use Rattle.fr_node.specs.declared.drafts.Draft.{Draft}
 use Rattle.fr_node.specs.declared.turn.NodeTurn.{NodeTurn}
 use Rattle.fr_node.specs.declared.turn.NodeTurn.TheVariants as turn
@@ -221,3 +221,36 @@ pub entered-step : (ds rest : List Draft) (xs more : List Tell) (d : Draft) (x :
 entered-step ds rest xs more d x es longer total is told put inv =
     let e : Entry = record { stamp = d.stamp; act = act.Asked d.from d.ask x } in
     ap (λ l. l ++ entered rest more) put ∙ (append_assoc es (e ∷ []) (entered rest more) ∙ (ap (λ l. es ++ l) (sym (ap (λ l. entered l xs) is ∙ ap (entered (d ∷ rest)) told)) ∙ inv))
+
+-- ---- a node that took a group
+
+module _ {S A T : Type 0} (wrapped : A → Ask) (unwrapped : Ask → Option A) (wrapped_tell : T → Tell) (told : S → A → T) (after : S → A → S) (owned : Ask → Option A)
+    (is_own : (ask : Ask) (a : A) → owned ask ≡ Some a → unwrapped ask ≡ Some a) where
+  abbrev m : Steps S A
+  m = steps wrapped unwrapped wrapped_tell told after
+
+  tells-are : (s : S) (asks : List A) (tells : List T) → tells ≡ told_all after told s asks → map wrapped_tell tells ≡ told_all after m.told s asks
+  tells-are s asks tells are = ap (map wrapped_tell) are ∙ told-map after told wrapped_tell s asks
+
+  -- what it did leads where it is
+  pub served-group : (place now : NodeId) (first : S) (es longer : List Entry) (s t : S) (ds : List Draft) (asks : List A) (tells : List T)
+      → IsServed m place first es s → now ≡ place → owned_all owned ds ≡ Some asks → tells ≡ told_all after told s asks
+      → longer ≡ es ++ entered ds (map wrapped_tell tells) → t ≡ after_all after s asks
+      → IsServed m now first longer t
+  served-group place now first es longer s t ds asks tells h p own are is later =
+      let k : longer ≡ es ++ entered ds (told_all after m.told s asks) = is ∙ ap (λ (l : List Tell). es ++ entered ds l) (tells-are s asks tells are) in
+      rw (p, k, later) (served-all m owned is_own place first es s ds asks own h)
+
+  -- and each turn was taken as if it had come alone
+  pub taken-group : (show : S → Last) (place : NodeId) (first : S) (es longer : List Entry) (s : S) (ts : List (ℕ × NodeTurn)) (ds : List Draft) (asks : List A) (tells : List T) (made : List Entry) (all : List (Entry × Last))
+      → IsServed m place first es s → drafts_of (last_number es) ts ≡ Some ds → owned_all owned ds ≡ Some asks → tells ≡ told_all after told s asks
+      → made ≡ entered ds (map wrapped_tell tells) → longer ≡ es ++ entered ds (map wrapped_tell tells)
+      → (AreGrouped m owned s made → all ≡ stood show (after_act m) s made)
+      → AreTaken (λ (x : List Entry). show (state_after m first x)) es longer ts all
+  taken-group show place first es longer s ts ds asks tells made all h drafted own are makes is stands =
+      let k = tells-are s asks tells are in
+      let g : AreGrouped m owned s made = subst (λ (l : List Entry). AreGrouped m owned s l) (sym (makes ∙ ap (entered ds) k)) (grouped-all m owned is_own s ds asks own) in
+      let many : length (map wrapped_tell tells) ≡ length ds = ap length k ∙ (told-length after m.told s asks ∙ owned-length owned ds asks own) in
+      let all_is : all ≡ stood show (after_act m) (state_after m first es) (entered ds (map wrapped_tell tells)) =
+          stands g ∙ (ap (stood show (after_act m) s) makes ∙ ap (λ (x : S). stood show (after_act m) x (entered ds (map wrapped_tell tells))) h.state_is) in
+      rw (is, all_is) (taken-all m show first es (last_number es) ts ds (map wrapped_tell tells) drafted many)
