@@ -54,12 +54,7 @@ impl Waiting {
     }
 
     /// Has a turn wait.
-    pub(crate) fn put(
-        &mut self,
-        sender: Sender,
-        at: Stamp,
-        turn: NodeTurn,
-    ) -> Result<(), Memory> {
+    pub(crate) fn put(&mut self, sender: Sender, at: Stamp, turn: NodeTurn) -> Result<(), Memory> {
         self.senders.push(sender)?;
         self.turns.push((at, turn))?;
         Ok(())

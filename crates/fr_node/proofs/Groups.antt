@@ -139,20 +139,19 @@ module _ {S A : Type 0} (m : Steps S A) (owned : Ask → Option A) (is_own : (as
       let rest = subst (λ (x : S). AreGrouped m owned x (entries_of ds (m.after s a) f.rest)) (sym (after-one d s a f.one)) (grouped-all (m.after s a) ds f.rest f.others) in
       subst (λ (x : List A). AreGrouped m owned s (entries_of (d ∷ ds) s x)) (sym f.are) ((a, (f.one, (is_own d.ask a f.one, refl))), rest)
 
--- turns are taken as if they had come one by one
+-- what is entered of turns is taken, as if they had come one by one
+abbrev Goes : {S A : Type 0} → Steps S A → (S → Last) → S → List Entry → List (ℕ × NodeTurn) → List Draft → List Tell → Type 0
+Goes m show first es ts ds tells = AreTaken (λ (x : List Entry). show (state_after m first x)) es (es ++ entered ds tells) ts (stood show (after_act m) (state_after m first es) (entered ds tells))
+
 pub taken-all : {S A : Type 0} (m : Steps S A) (show : S → Last) (first : S) (es : List Entry) (last : ℕ) (ts : List (ℕ × NodeTurn)) (ds : List Draft) (tells : List Tell)
-    → drafts_of last ts ≡ Some ds → length tells ≡ length ds
-    → AreTaken (λ (x : List Entry). show (state_after m first x)) es (es ++ entered ds tells) ts (stood show (after_act m) (state_after m first es) (entered ds tells))
+    → drafts_of last ts ≡ Some ds → length tells ≡ length ds → Goes m show first es ts ds tells
 taken-all m show first es last [] [] tells e many = append-nil es
 taken-all m show first es last [] (d ∷ ds) tells e many = absurd (cc e)
-taken-all {S} {A} m show first es last (t ∷ ts) ds tells e many =
+taken-all m show first es last (t ∷ ts) ds tells e many =
     let f = first-draft last t ts ds e in
-    subst (λ (x : List Draft). Goes x tells) (sym f.are) (go f.head f.rest tells (draft-is last t.0 t.1 f.head f.one) f.others (many ∙ ap length f.are))
+    subst (λ (x : List Draft). Goes m show first es (t ∷ ts) x tells) (sym f.are) (go f.head f.rest tells (draft-is last t.0 t.1 f.head f.one) f.others (many ∙ ap length f.are))
   where
-    abbrev Goes : List Draft → List Tell → Type 0
-    Goes ds tells = AreTaken (λ (x : List Entry). show (state_after m first x)) es (es ++ entered ds tells) (t ∷ ts) (stood show (after_act m) (state_after m first es) (entered ds tells))
-
-    go : (d : Draft) (ds : List Draft) (tells : List Tell) → IsDraft last t.0 t.1 d → drafts_of d.stamp ts ≡ Some ds → length tells ≡ length (d ∷ ds) → Goes (d ∷ ds) tells
+    go : (d : Draft) (ds : List Draft) (tells : List Tell) → IsDraft last t.0 t.1 d → drafts_of d.stamp ts ≡ Some ds → length tells ≡ length (d ∷ ds) → Goes m show first es (t ∷ ts) (d ∷ ds) tells
     go d ds [] is others many = absurd (omega (arith, many))
     go d ds (x ∷ tells) is others many =
         let e : Entry = record { stamp = d.stamp; act = act.Asked d.from d.ask x } in
@@ -160,7 +159,7 @@ taken-all {S} {A} m show first es last (t ∷ ts) ds tells e many =
         let step : state_after m first longer ≡ after_act m (state_after m first es) e.act = state-append m first es e in
         let rest = taken-all m show first longer d.stamp ts ds tells others (omega (arith, many)) in
         let whole = subst (λ (n : List Entry). AreTaken (λ (y : List Entry). show (state_after m first y)) longer n ts (stood show (after_act m) (state_after m first longer) (entered ds tells))) (append_assoc es (e ∷ []) (entered ds tells)) rest in
-        let stands = subst (λ (s : S). AreTaken (λ (y : List Entry). show (state_after m first y)) longer (es ++ e ∷ entered ds tells) ts (stood show (after_act m) s (entered ds tells))) step whole in
+        let stands = subst (λ s. AreTaken (λ (y : List Entry). show (state_after m first y)) longer (es ++ e ∷ entered ds tells) ts (stood show (after_act m) s (entered ds tells))) step whole in
         (record { entries = refl; above = is.above; act = subst (λ (y : NodeTurn). IsOf y e.act) (sym is.is) (refl, refl) }, (ap show (sym step), stands))
 
 -- ---- what is entered, entry by entry
@@ -252,5 +251,5 @@ module _ {S A T : Type 0} (wrapped : A → Ask) (unwrapped : Ask → Option A) (
       let g : AreGrouped m owned s made = subst (λ (l : List Entry). AreGrouped m owned s l) (sym (makes ∙ ap (entered ds) k)) (grouped-all m owned is_own s ds asks own) in
       let many : length (map wrapped_tell tells) ≡ length ds = ap length k ∙ (told-length after m.told s asks ∙ owned-length owned ds asks own) in
       let all_is : all ≡ stood show (after_act m) (state_after m first es) (entered ds (map wrapped_tell tells)) =
-          stands g ∙ (ap (stood show (after_act m) s) makes ∙ ap (λ (x : S). stood show (after_act m) x (entered ds (map wrapped_tell tells))) h.state_is) in
+      stands g ∙ (ap (stood show (after_act m) s) makes ∙ ap (λ (x : S). stood show (after_act m) x (entered ds (map wrapped_tell tells))) h.state_is) in
       rw (is, all_is) (taken-all m show first es (last_number es) ts ds (map wrapped_tell tells) drafted many)
