@@ -177,6 +177,40 @@ LOGS = [
     fault({"type": "ask", "at": 30, "from": proxy(513), "ask": without("known", push(14, 15, 14))}, 12),
 ]
 
+# ---- a log whose lines wait: pushes, some of them given again, behind a gap and out of order, with reads among them
+
+WAITING = [
+    *LOGS[:5],
+    # (a push whose gap is closed behind it is told of the gap)
+    asked(9, proxy(513), push(13, 14, 11), 10, refused("gap", durable=11), log_last(11, 9)),
+    asked(9, proxy(513), push(11, 13, 11, [[0, BATCH]]), 11, told("held", version=13), log_last(13, 11)),
+    asked(9, proxy(513), push(13, 14, 11), 12, told("held", version=14), log_last(14, 11)),
+    # (what comes again raises nothing, whatever it says is known)
+    asked(20, proxy(513), push(11, 13, 10, [[0, BATCH]]), 21, told("held", version=13), log_last(14, 11)),
+    asked(20, proxy(513), push(13, 14, 13), 22, told("held", version=14), log_last(14, 11)),
+    asked(20, proxy(513), push(14, 15, 14), 23, told("held", version=15), log_last(15, 14)),
+    asked(20, STORAGE, PEEK, 24, told("peeked", **PEEKED | {"known": 14, "upto": 15}), log_last(15, 14)),
+    asked(20, STORAGE, MARK_ASKED, 25, told("marked", state=STATE), log_last(15, 14)),
+    asked(20, proxy(513), push(15, 16, 12), 26, told("held", version=16), log_last(16, 14)),
+    asked(20, proxy(513), push(16, 17, 12, [[2, BATCH]]), 27, refused("not_mine"), log_last(16, 14)),
+    asked(20, proxy(513), push(17, 18, 12), 28, refused("gap", durable=16), log_last(16, 14)),
+    fault({"type": "submit", "at": 30, "batch": [], "step": 1}, 10),
+    asked(20, proxy(513), push(16, 17, 16), 29, told("held", version=17), log_last(17, 16)),
+    asked(20, RECOVERER, lock(513), 30, told("locked", durable=17, known=16), log_last(17, 16, True)),
+    asked(20, proxy(513), push(17, 18, 17), 31, refused("stopped"), log_last(17, 16, True)),
+    asked(20, proxy(513), push(16, 17, 16), 32, told("held", version=17), log_last(17, 16, True)),
+    # (the greatest stamp, and none above it)
+    asked(2**40 - 2, STORAGE, MARK_ASKED, 2**40 - 1, told("marked", state=STATE), log_last(17, 16, True)),
+    fault(asked(40, STORAGE, MARK_ASKED, 0, {}, {})[0], 14, "StampsSpent"),
+    fault(asked(40, proxy(513), push(16, 17, 16), 0, {}, {})[0], 14, "StampsSpent"),
+]
+
+
+PUSHES = LOGS[:5], [
+    asked(9, proxy(513), push(at, at + 1, 11), at - 1, told("held", version=at + 1), log_last(at + 1, 11))
+    for at in range(11, 75)
+]
+
 # ---- a sequencer
 
 

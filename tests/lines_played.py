@@ -3,6 +3,7 @@
 import json
 import os
 import resource
+import shutil
 import subprocess
 import sys
 import tempfile
@@ -27,6 +28,23 @@ def answers(words, given):
     """The lines that a process answers to these, as bytes; its status at the end, and what it complains of."""
     ran = subprocess.run(words, input=b"".join(it + b"\n" for it in given), capture_output=True, timeout=PATIENCE)
     return ran.stdout.split(b"\n")[:-1], (ran.returncode, ran.stderr)
+
+
+def answers_then(words, first, later):
+    """The same of some lines that are given one by one, each once the one before is answered, and of later ones that are
+    given by one write."""
+    pipes = {"stdin": subprocess.PIPE, "stdout": subprocess.PIPE, "stderr": subprocess.PIPE}
+    with subprocess.Popen(words, **pipes, bufsize=0) as its:
+        found = []
+        for each in first:
+            its.stdin.write(each + b"\n")
+            found.append(its.stdout.readline())
+        rest, complaint = its.communicate(b"".join(each + b"\n" for each in later), timeout=PATIENCE)
+    return (b"".join(found) + rest).split(b"\n")[:-1], (its.returncode, complaint)
+
+
+def answers_apart(words, given):
+    return answers_then(words, given, [])
 
 
 def line(name, number, body):
@@ -107,6 +125,63 @@ def ahead(checks, command, is_exact):
             words_of = with_config([*command, *words.split(), "--dir", f"{room}/files"], config, room)
             for rows in processes:
                 played(checks, title, words_of, rows, is_exact, name)
+
+
+# ---- lines that wait
+
+
+def together(checks, command, seed):
+    """Lines that are given at once are answered by the same lines as one by one, from a log over a file too, which takes
+    pushes and reads as groups. (The scripts above are given at once.)"""
+    words = [*command, "log", "--epoch", "513", "--index", "0", "--logs", "4", "--degree", "2"]
+    played_at_once(checks, "waiting lines", [(words, lines.WAITING)])
+    world = Drawn(seed).play(400).events
+    logs = [it for it in world.script()["journals"] if "log" in it["node"]]
+    for journal in logs:
+        words = [*command, *map(str, words_of(world, journal["node"])), *shape_words(journal)]
+        bodies = [line_of(it["act"], it["stamp"]) for it in journal["entries"]]
+        given = [line(judging.spoken(journal["node"]), at, it) for at, it in enumerate(it for it in bodies if it)]
+        with tempfile.TemporaryDirectory() as room:
+            os.mkdir(f"{room}/at-once"), os.mkdir(f"{room}/apart")
+            at_once = answers([*words, "--dir", f"{room}/at-once"], given)
+            apart = answers_apart([*words, "--dir", f"{room}/apart"], given)
+        checks.check(at_once == apart, "seed", seed, "lines given at once to", journal["node"], "are answered otherwise")
+
+
+def played_at_once(checks, title, scripts):
+    """Gives the rows of scripts to logs over files, all lines at once and one by one, and compares the answers."""
+    for words, rows in scripts:
+        given = [line("log 513 0", number, body) for number, (body, _) in enumerate(rows)]
+        bodies = [answer | {"in_reply_to": number} for number, (_, answer) in enumerate(rows)]
+        wanted = [{"body": body, "dest": "router", "src": "log 513 0"} for body in bodies]
+        for answering in (answers, answers_apart):
+            with tempfile.TemporaryDirectory() as room:
+                found, end = answering([*words, "--dir", room], given)
+            checks.check(end == (0, b"") and len(found) == len(rows), title, "ended with", end, len(found))
+            for it, answer, row in zip(found, wanted, rows):
+                checks.check(is_answer(it, answer, True), title, text(row[0]), "answers", it, "and not", text(answer))
+
+
+def syncs(checks, command):
+    """64 pushes that wait are one group, whose records are synced once: two calls, and not two for each of them. They
+    are counted by strace, and not at all where it lacks: the names of what lacks are returned."""
+    if not shutil.which("strace"):
+        return ["strace"]
+    begins, pushes = lines.PUSHES
+    counts = []
+    for rows in (begins, begins + pushes):
+        given = [line("log 513 0", number, body) for number, (body, _) in enumerate(rows)]
+        with tempfile.TemporaryDirectory() as room:
+            traced = ["strace", "-f", "-e", "trace=fdatasync", "-o", f"{room}/calls"]
+            words = ["log", "--epoch", "513", "--index", "0", "--logs", "4", "--degree", "2", "--dir", room]
+            found, end = answers_then([*traced, *command, *words], given[: len(begins)], given[len(begins) :])
+            with open(f"{room}/calls", encoding="utf-8") as it:
+                counts.append(sum("fdatasync(" in each for each in it))
+        checks.check(end == (0, b"") and len(found) == len(rows), "traced, a log ended with", end, len(found))
+        last = json.loads(found[-1])["body"].get("last") if found else None
+        checks.check(last == rows[-1][1]["last"], "traced, a log stands at", last)
+    checks.check(counts[1] - counts[0] == 2, len(pushes), "pushes at once take", counts[1] - counts[0], "syncs, and not 2")
+    return []
 
 
 # ---- on a full disk

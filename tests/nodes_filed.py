@@ -246,6 +246,43 @@ def killed(checks, command, every=1):
             checks.check(is_so, kind[0], "sweep", at, "met", met, "of", len(stages))
 
 
+def group_killed(checks, command):
+    """A log is killed at each write and each sync of pushes that it takes as one group: all of them are found then, or
+    none, and all if one was answered. Given again they are told the same."""
+    begins, pushes = lines.PUSHES
+    group = [body for body, _ in pushes[:3]]
+    told = [answer["entry"]["act"] for _, answer in pushes[:3]]
+    before, after = begins[-1][1]["last"], pushes[2][1]["last"]
+    with tempfile.TemporaryDirectory() as room:
+        library = f"{room}/killed.so"
+        its = ["cc", "-shared", "-fPIC", "-o", library, f"{built.TOP}/bench/killed.c", "-ldl"]
+        subprocess.run(its, check=True, capture_output=True)
+        files = Files(checks, command, room)
+        os.mkdir(f"{room}/before")
+        files.run(LOG, "before", [body for body, _ in begins])
+        met = set()
+        for call in ("pwrite64", "fdatasync"):
+            for number in itertools.count(1):
+                its = os.environ | {"LD_PRELOAD": library, "KILLED": f"{call}:{number}"}
+                shutil.copytree(f"{room}/before", f"{room}/now")
+                answered, status, text = files.run(LOG, "now", [INIT, *group], env=its)
+                title = f"a group, {call} {number}:"
+                checks.check(status in (0, -signal.SIGKILL), title, "ended with", status, text)
+                checks.check(len(answered) in (0, 1, 4), title, "has the answers", answered)
+                found, end, text = files.run(LOG, "now", [INIT, {"type": "back", "at": 90}, *group])
+                checks.check((len(found), end, text) == (5, 0, ""), title, "started again it ended with", end, text, found)
+                stands = found[0].get("last") if found else None
+                is_so = stands in (before, after) and (len(answered) < 4 or stands == after)
+                checks.check(is_so, title, len(answered), "answers, and it is found at", stands)
+                acts = [it.get("entry", {}).get("act") for it in found[2:]]
+                checks.check(acts == told, title, "given again it enters", acts)
+                met.add(stands == after)
+                shutil.rmtree(f"{room}/now")
+                if status != -signal.SIGKILL:
+                    break
+        checks.check(met == {False, True}, "a group that was killed is found", met)
+
+
 def back(files, title, kind, answered, body, stages):
     """The node is started again: which of the states it has."""
     is_open, is_hear = len(answered) < 2, body["type"] == "hear"
