@@ -25,7 +25,7 @@ pub use acting::Acting;
 pub use answering::Answering;
 pub use course::Course;
 pub use fault::{Crash, NodeTurnFault, TurnRefusal};
-pub use groups::{Apart, Groups};
+pub use groups::{Apart, Grouping, Groups};
 pub use passive::{Passive, crash_at};
 pub use proxies::ProxyNode;
 pub use recoverers::RecovererNode;
