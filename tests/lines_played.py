@@ -31,8 +31,8 @@ def answers(words, given):
 
 
 def answers_then(words, first, later):
-    """The same of some lines that are given one by one, each once the one before is answered, and of later ones that are
-    given by one write."""
+    """The same of some lines that are given one by one, each once the one before is answered, and of later ones that
+    are given by one write."""
     pipes = {"stdin": subprocess.PIPE, "stdout": subprocess.PIPE, "stderr": subprocess.PIPE}
     with subprocess.Popen(words, **pipes, bufsize=0) as its:
         found = []
@@ -131,8 +131,8 @@ def ahead(checks, command, is_exact):
 
 
 def together(checks, command, seed):
-    """Lines that are given at once are answered by the same lines as one by one, from a log over a file too, which takes
-    pushes and reads as groups. (The scripts above are given at once.)"""
+    """Lines that are given at once are answered by the same lines as one by one, from a log over a file too, which
+    takes pushes and reads as groups. (The scripts above are given at once.)"""
     words = [*command, "log", "--epoch", "513", "--index", "0", "--logs", "4", "--degree", "2"]
     played_at_once(checks, "waiting lines", [(words, lines.WAITING)])
     world = Drawn(seed).play(400).events
@@ -145,7 +145,7 @@ def together(checks, command, seed):
             os.mkdir(f"{room}/at-once"), os.mkdir(f"{room}/apart")
             at_once = answers([*words, "--dir", f"{room}/at-once"], given)
             apart = answers_apart([*words, "--dir", f"{room}/apart"], given)
-        checks.check(at_once == apart, "seed", seed, "lines given at once to", journal["node"], "are answered otherwise")
+        checks.check(at_once == apart, "seed", seed, "at once", journal["node"], "answers otherwise", at_once, apart)
 
 
 def played_at_once(checks, title, scripts):
@@ -180,7 +180,8 @@ def syncs(checks, command):
         checks.check(end == (0, b"") and len(found) == len(rows), "traced, a log ended with", end, len(found))
         last = json.loads(found[-1])["body"].get("last") if found else None
         checks.check(last == rows[-1][1]["last"], "traced, a log stands at", last)
-    checks.check(counts[1] - counts[0] == 2, len(pushes), "pushes at once take", counts[1] - counts[0], "syncs, and not 2")
+    taken = counts[1] - counts[0]
+    checks.check(taken == 2, len(pushes), "pushes at once take", taken, "syncs, and not 2")
     return []
 
 

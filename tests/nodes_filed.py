@@ -270,7 +270,8 @@ def group_killed(checks, command):
                 checks.check(status in (0, -signal.SIGKILL), title, "ended with", status, text)
                 checks.check(len(answered) in (0, 1, 4), title, "has the answers", answered)
                 found, end, text = files.run(LOG, "now", [INIT, {"type": "back", "at": 90}, *group])
-                checks.check((len(found), end, text) == (5, 0, ""), title, "started again it ended with", end, text, found)
+                is_so = (len(found), end, text) == (5, 0, "")
+                checks.check(is_so, title, "started again it ended with", end, text, found)
                 stands = found[0].get("last") if found else None
                 is_so = stands in (before, after) and (len(answered) < 4 or stands == after)
                 checks.check(is_so, title, len(answered), "answers, and it is found at", stands)

@@ -14,7 +14,7 @@ use fr_cli_json::CliFault;
 use fr_epoch::Recoverer;
 use fr_log::Log;
 use fr_mutation::Shard;
-use fr_node::{Answering, Apart, Groups, Passive, ProxyNode, RecovererNode, StorageNode};
+use fr_node::{Answering, Apart, Grouping, Groups, Passive, ProxyNode, RecovererNode, StorageNode};
 use fr_node_lines::{ScriptFault, read_config};
 use fr_proxy::{Proxy, Sequencer};
 use fr_register::Cell;
@@ -354,7 +354,7 @@ fn log_in<R: Read, W: Write>(
 }
 
 /// Serves a node over its file.
-fn serve_kept<N: Node + Drop, G: Groups<N>, R: Read, W: Write>(
+fn serve_kept<N: Node + Drop, G: Groups<N> + Grouping<N::Plain>, R: Read, W: Write>(
     alloc: Global,
     node: N,
     place: NodeId,

@@ -6,8 +6,8 @@ ghost use Rattle.fr_log.specs.Push.{IsPush};
 use fr_ask::{Ask, Last, Tell};
 use fr_base::{Memory, NodeFault, Version};
 use fr_log::laws::{raise_law, tell_law};
-use fr_log::{LogAsk, LogTell, Push};
-use fr_node::Groups;
+use fr_log::{Log, LogAsk, LogTell, Push};
+use fr_node::{Grouping, Groups};
 use fr_record::Device;
 use fr_record_log::LogNode;
 use std::alloc::Global;
@@ -147,16 +147,12 @@ fn last_behind_log(last: &Last, ask: &LogAsk, tell: &LogTell) -> Result<Last, Me
     }
 }
 
-impl<D: Device> Groups<LogNode<D>> for Together {
+impl Grouping<Log> for Together {
     ghost use Rattle.fr_cli_node.specs.Together.{joins, owned_log, owned_log-own};
-    ghost use Rattle.fr_record_log.specs.Law.{written_all};
-    ghost use Rattle.fr_record_node.specs.Node.{HasNoRoom};
 
     ghost owned = { owned_log };
 
     ghost joins = { joins };
-
-    ghost ServesApart = { λ n asks. HasNoRoom (D.capacity_of n.device) n.records (written_all n.machine asks) };
 
     ghost is_own = { owned_log-own };
 
@@ -193,6 +189,13 @@ impl<D: Device> Groups<LogNode<D>> for Together {
             Ask::Seq(_) => last.copy(),
         }
     }
+}
+
+impl<D: Device> Groups<LogNode<D>> for Together {
+    ghost use Rattle.fr_record_log.specs.Law.{written_all};
+    ghost use Rattle.fr_record_node.specs.Node.{HasNoRoom};
+
+    ghost ServesApart = { λ n asks. HasNoRoom (D.capacity_of n.device) n.records (written_all n.machine asks) };
 
     fn serve_all(
         node: &mut LogNode<D>,

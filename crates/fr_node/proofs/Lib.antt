@@ -2,4 +2,4 @@ mod Served
 mod Asked
 mod Leads
 mod Courses
-mod Groups
+mod Grouped

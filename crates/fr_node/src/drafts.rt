@@ -7,11 +7,11 @@ ghost use Rattle.fr_node.specs.Groups.{AreGrouped, AreRising, draft_of, drafts_o
 
 use crate::answering::Answering;
 use crate::course::Course;
-use crate::groups::Groups;
+use crate::groups::Grouping;
 use crate::turn::NodeTurn;
 use fr_ask::{Ask, Last, Named};
 use fr_audit_journal::{Act, Entry};
-use fr_base::{Machine, Memory, Node, NodeId, Stamp};
+use fr_base::{Machine, Memory, NodeId, Stamp};
 use std::alloc::Global;
 
 /// What is to be entered of an ask: all but what it is told.
@@ -70,13 +70,12 @@ pub(crate) fn drafts_of(
 }
 
 /// The asks of drafts as the machine's own; none if one of them stands in no group.
-pub(crate) fn own_asks<N: Node, G: Groups<N>>(
+pub(crate) fn own_asks<M: Answering, G: Grouping<M>>(
     alloc: Global,
     drafts: &[Draft],
-) -> Result<Option<Vec<<N::Plain as Machine>::Ask>>, Memory>
+) -> Result<Option<Vec<M::Ask>>, Memory>
 where
-    N::Plain: Answering,
-    <N::Plain as Machine>::Ask: Drop,
+    M::Ask: Drop,
     ensures { IfOk result (λ found. option_map (λ asks. asks.items) found ≡ owned_all G.owned drafts.now) }
 {
     let mut asks = Vec::with_capacity(alloc, drafts.len())?;
@@ -87,6 +86,14 @@ where
         }
     }
     Ok(Some(asks))
+}
+
+/// A list with room for so many entries.
+pub(crate) fn room_for(alloc: Global, count: usize) -> Result<Vec<Entry>, Memory>
+    ensures none { IfOk result (λ entries. entries.items ≡ []) }
+    ensures room { IfOk result (λ entries. count ≤ vec_capacity entries) }
+{
+    Ok(Vec::with_capacity(alloc, count)?)
 }
 
 /// Enters drafts with what their asks were told, for which there is room. It takes no memory.
@@ -127,16 +134,14 @@ where
 }
 
 /// Entries of a group, each with the state behind it, as others see it; `first` is the one before all of them.
-pub(crate) fn with_lasts<N: Node, G: Groups<N>>(
+pub(crate) fn with_lasts<M: Answering, G: Grouping<M>>(
     alloc: Global,
     first: Last,
     entries: Vec<Entry>,
 ) -> Result<Vec<(Entry, Last)>, Memory>
-where
-    N::Plain: Answering,
-    ensures { IfOk result (λ all. (s : N.Plain) → first ≡ N.Plain.last_of s
-        → AreGrouped (steps N.Plain.wrapped N.Plain.unwrapped N.Plain.wrapped_tell N.Plain.told N.Plain.after) G.owned s entries.items
-        → all.items ≡ stood N.Plain.last_of (after_act (steps N.Plain.wrapped N.Plain.unwrapped N.Plain.wrapped_tell N.Plain.told N.Plain.after)) s entries.items) }
+    ensures { IfOk result (λ all. (s : M) → first ≡ M.last_of s
+        → AreGrouped (steps M.wrapped M.unwrapped M.wrapped_tell M.told M.after) G.owned s entries.items
+        → all.items ≡ stood M.last_of (after_act (steps M.wrapped M.unwrapped M.wrapped_tell M.told M.after)) s entries.items) }
 {
     let mut all = Vec::with_capacity(alloc, entries.len())?;
     let mut last = first;

@@ -8,23 +8,16 @@ use fr_ask::{Ask, Last, Tell};
 use fr_base::{Machine, Memory, Node, NodeFault};
 use std::alloc::Global;
 
-/// How a node serves several asks as one group, if it does: they are told what they would have been told one by one, and
-/// a crash leaves all of them taken, or none.
-pub trait Groups<N: Node>
-where
-    N::Plain: Answering,
-{
-    ghost use Rattle.std.specs.Prelude.{◌≡◌, Bool, List, Option, Some};
+/// Which asks of a machine stand in groups, and what others see of it between them.
+pub trait Grouping<M: Answering> {
+    ghost use Rattle.std.specs.Prelude.{◌≡◌, Bool, Option, Some};
     ghost use Rattle.fr_ask.specs.declared.ask.Ask.{Ask};
 
     /// An ask that stands in groups, as one of the machine's own; none if it stands in none.
-    ghost owned: { Ask → Option N.Plain.Ask };
+    ghost owned: { Ask → Option M.Ask };
 
     /// Whether an ask may stand behind another one in a group.
     ghost joins: { Ask → Ask → Bool };
-
-    /// Whether asks are served one by one, and not as one group.
-    ghost ServesApart: { N → List N.Plain.Ask → Type 0 };
 
     /// Whether an ask may stand behind another one in a group: each of a group is told the same again once all of them
     /// were taken.
@@ -32,14 +25,29 @@ where
         ensures { result ≡ joins last.now ask.now };
 
     /// A copy of an ask that stands in groups, as one of the machine's own; none if it stands in none.
-    fn own(ask: &Ask) -> Result<Option<<N::Plain as Machine>::Ask>, Memory>
+    fn own(ask: &Ask) -> Result<Option<M::Ask>, Memory>
         ensures { IfOk result (λ own. own ≡ owned ask.now) };
 
     /// The state of a machine behind an ask that stands in groups, as others see it: from the one before, and from what
     /// the ask was told.
     fn last_after(last: &Last, ask: &Ask, tell: &Tell) -> Result<Last, Memory>
-        ensures { IfOk result (λ later. (s : N.Plain) (a : N.Plain.Ask) → last.now ≡ N.Plain.last_of s → owned ask.now ≡ Some a
-            → tell.now ≡ N.Plain.wrapped_tell (N.Plain.told s a) → later ≡ N.Plain.last_of (N.Plain.after s a)) };
+        ensures { IfOk result (λ later. (s : M) (a : M.Ask) → last.now ≡ M.last_of s → owned ask.now ≡ Some a
+            → tell.now ≡ M.wrapped_tell (M.told s a) → later ≡ M.last_of (M.after s a)) };
+
+    /// What stands in groups is an ask of the machine.
+    ghost is_own: { (ask : Ask) (a : M.Ask) → owned ask ≡ Some a → M.unwrapped ask ≡ Some a };
+}
+
+/// How a node serves several asks as one group, if it does: they are told what they would have been told one by one, and
+/// a crash leaves all of them taken, or none.
+pub trait Groups<N: Node>
+where
+    N::Plain: Answering,
+{
+    ghost use Rattle.std.specs.Prelude.{List};
+
+    /// Whether asks are served one by one, and not as one group.
+    ghost ServesApart: { N → List N.Plain.Ask → Type 0 };
 
     /// Answers asks in their order, once all that they change outlasts a crash. `None`: it serves them apart alone, and
     /// nothing is changed. Every fault leaves the state.
@@ -61,25 +69,17 @@ where
         ensures any_moment { (node.new ≡ node.old)
             ⊎ N.Throughout (λ x. (x ≡ N.state node.old) ⊎ (x ≡ after_all N.Plain.after (N.state node.old) asks.items)) node.old node.new }
         ensures kept { IfOk result (λ served. IfSome served (λ tells. N.Throughout (λ x. x ≡ N.state node.new) node.new node.new)) };
-
-    /// What stands in groups is an ask of the machine.
-    ghost is_own: { (ask : Ask) (a : N.Plain.Ask) → owned ask ≡ Some a → N.Plain.unwrapped ask ≡ Some a };
 }
 
 /// Each ask apart.
 pub struct Apart;
 
-impl<N: Node> Groups<N> for Apart
-where
-    N::Plain: Answering,
-{
+impl<M: Answering> Grouping<M> for Apart {
     ghost use Rattle.std.specs.Prelude.{false, None};
 
     ghost owned = { λ ask. None };
 
     ghost joins = { λ last ask. false };
-
-    ghost ServesApart = { λ node asks. Unit {0} };
 
     ghost is_own = { λ ask a e. absurd (cc e) };
 
@@ -87,19 +87,32 @@ where
         false
     }
 
-    fn own(_ask: &Ask) -> Result<Option<<N::Plain as Machine>::Ask>, Memory> {
+    fn own(_ask: &Ask) -> Result<Option<M::Ask>, Memory> {
         Ok(None)
     }
 
     fn last_after(last: &Last, _ask: &Ask, _tell: &Tell) -> Result<Last, Memory> {
         last.copy()
     }
+}
+
+impl<N: Node> Groups<N> for Apart
+where
+    N::Plain: Answering,
+    <N::Plain as Machine>::Ask: Drop,
+{
+    ghost ServesApart = { λ node asks. Unit {0} };
 
     fn serve_all(
-        _node: &mut N,
+        node: &mut N,
         _alloc: Global,
         _asks: Vec<<N::Plain as Machine>::Ask>,
-    ) -> Result<Option<Vec<<N::Plain as Machine>::Tell>>, NodeFault> {
+    ) -> Result<Option<Vec<<N::Plain as Machine>::Tell>>, NodeFault>
+        requires works { N.is_failed node.old ≡ false }
+        ensures apart { result ≡ Ok None }
+        ensures still { node.new ≡ node.old }
+    {
+        let _left = node;
         Ok(None)
     }
 }

@@ -27,7 +27,7 @@ pub use ahead::{Reach, is_ahead};
 pub use answering::Answering;
 pub use course::Course;
 pub use fault::{Crash, NodeTurnFault, TurnRefusal};
-pub use groups::{Apart, Groups};
+pub use groups::{Apart, Grouping, Groups};
 pub use passive::{Passive, crash_at};
 pub use proxies::ProxyNode;
 pub use recoverers::RecovererNode;

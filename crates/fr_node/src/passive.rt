@@ -10,9 +10,9 @@ use crate::acting::Acting;
 use crate::ahead::Reach;
 use crate::answering::Answering;
 use crate::course::Course;
-use crate::drafts::{drafts_of, enter_all, own_asks, with_lasts};
+use crate::drafts::{drafts_of, enter_all, own_asks, room_for, with_lasts};
 use crate::fault::{NodeTurnFault, TurnRefusal};
-use crate::groups::Groups;
+use crate::groups::{Grouping, Groups};
 use crate::stamps::stamp_above;
 use crate::turn::{Hearing, NodeTurn, Round};
 use crate::wants::Wants;
@@ -139,7 +139,7 @@ pub fn crash_at(stamp: Stamp) -> Entry
     }
 }
 
-impl<N: Node, G: Groups<N>> Acting for Passive<N, G>
+impl<N: Node, G: Groups<N> + Grouping<N::Plain>> Acting for Passive<N, G>
 where
     N::Plain: Answering,
     <N::Plain as Machine>::Ask: Drop,
@@ -243,18 +243,18 @@ where
         let Some(drafts) = drafts_of(alloc, &self.course, turns)? else {
             return Ok(None);
         };
-        let Some(asks) = own_asks::<N, G>(alloc, drafts.as_slice())? else {
+        let Some(asks) = own_asks::<N::Plain, G>(alloc, drafts.as_slice())? else {
             return Ok(None);
         };
         // What can fail comes first: once the asks are served, each of them has to be entered.
         let first = self.node.plain().last(alloc)?;
-        let mut entries = Vec::with_capacity(alloc, drafts.len())?;
+        let mut entries = room_for(alloc, drafts.len())?;
         self.course.reserve_all(drafts.len())?;
         let Some(tells) = G::serve_all(&mut self.node, alloc, asks)? else {
             return Ok(None);
         };
         enter_all::<N::Plain>(&mut self.course, &mut entries, drafts, tells);
-        Ok(Some(with_lasts::<N, G>(alloc, first, entries)?))
+        Ok(Some(with_lasts::<N::Plain, G>(alloc, first, entries)?))
     }
 
     fn back(
