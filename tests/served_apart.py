@@ -54,6 +54,7 @@ def all_of(checks):
         no_broker(checks, f"{room}/b")
         running(checks, f"{room}/c")
         full_for_good(checks, f"{room}/d")
+        filling(checks, f"{room}/e")
     finally:
         shutil.rmtree(room)
 
@@ -178,6 +179,31 @@ def full_for_good(checks, room):
         checks.check(len(begun) <= 6, "recoveries that were begun:", begun)
         cluster.disk.empty()
         checks.check(cluster.comes(60) is not None, "it goes on with room:", cluster.last.stderr)
+        cluster.stop()
+        line, why, _ = cluster.audit()
+        checks.check(line == "audit ok", line, why)
+    finally:
+        cluster.drop()
+
+
+def filling(checks, room):
+    """Files of logs with little room: an epoch is ended before one is full, and the files of ended ones are erased."""
+    cluster = served.Cluster(room)
+    with open(cluster.config, "a", encoding="utf-8") as it:
+        it.write("\n[files]\nroom = 1048576\n")
+    try:
+        cluster.start_all()
+        checks.check(cluster.comes(60) is not None, "it begins with small files:", cluster.last.stderr)
+        load = cluster.begin("bench", "--seconds", "40", "--clients", "8", "--keys", "4")
+        load.communicate(timeout=120)
+        checks.check(cluster.comes(20) is not None, "it goes on:", cluster.last.stderr)
+        why = [it for at in (1, 2) for it in cluster.said(f"keeper-{at}", '"why":') if '"machines":' in it]
+        rolled = [it for it in why if "with room for 1048576" in it]
+        checks.check(len(rolled) > 1 and not any("is full" in it for it in why), "epochs that were ended:", why)
+        standing = cluster.standing()
+        sizes = [its["bytes"] for each in standing["machines"].values() for token, its in each["nodes"].items()
+                 if token.startswith("log-") and "bytes" in its]
+        checks.check(standing["newest"]["epoch"] > 513 and max(sizes) <= 1048576 and len(sizes) <= 16, "logs:", sizes)
         cluster.stop()
         line, why, _ = cluster.audit()
         checks.check(line == "audit ok", line, why)

@@ -4,6 +4,7 @@ ghost use Rattle.std.specs.Prelude.{◌≡◌, ◌<◌, ◌==◌, false, length,
 ghost use Rattle.fr_record.specs.Disk.{Stands};
 
 use crate::fault::NodeEnd;
+use crate::words::Home;
 use fr_base::{Bytes, LogId, Node, Shape, Tag, Version};
 use fr_cli_json::CliFault;
 use fr_host::{HostDevice, HostFault, Mirror, open};
@@ -24,41 +25,46 @@ use sqlite_std_file::{FileFrom, OpenError, Unknown};
 use std::alloc::Global;
 use std::io;
 
-/// How many bytes the file of a cell or a log has room for, or those that it has if they are more.
-const ROOM: usize = 16_777_216;
-
 /// What each database begins with.
 const HEAD: &[u8] = b"SQLite format 3\0";
 
 /// A file of the host that is read once, when it is opened.
 pub(crate) type HostFile = Mirror<FileFrom<Unknown>>;
 
-/// The file of a cell in a folder, as a device.
+/// The file of a cell in its home, as a device.
 pub(crate) fn cell_device(
     host: &HostRuntime,
     alloc: Global,
-    folder: &str,
+    home: &Home,
     index: u8,
 ) -> Result<HostDevice, NodeEnd> {
+    let folder = home.folder.as_str();
     let path = format!(in alloc; "{folder}/cell-{index}")?;
-    device_at(host, alloc, path.as_str())
+    device_at(host, alloc, path.as_str(), home.room)
 }
 
-/// The file of a log in a folder, as a device.
+/// The file of a log in its home, as a device.
 pub(crate) fn log_device(
     host: &HostRuntime,
     alloc: Global,
-    folder: &str,
+    home: &Home,
     id: &LogId,
 ) -> Result<HostDevice, NodeEnd> {
+    let folder = home.folder.as_str();
     let epoch = id.epoch.get();
     let index = id.index;
     let path = format!(in alloc; "{folder}/log-{epoch}-{index}")?;
-    device_at(host, alloc, path.as_str())
+    device_at(host, alloc, path.as_str(), home.room)
 }
 
-fn device_at(host: &HostRuntime, alloc: Global, path: &str) -> Result<HostDevice, NodeEnd> {
-    match open(host, alloc, path, ROOM) {
+/// A file as a device with so much room, or that of its bytes if they are more.
+fn device_at(
+    host: &HostRuntime,
+    alloc: Global,
+    path: &str,
+    room: usize,
+) -> Result<HostDevice, NodeEnd> {
+    match open(host, alloc, path, room) {
         Ok(device) => Ok(device),
         Err(fault) => Err(unopened(fault)),
     }

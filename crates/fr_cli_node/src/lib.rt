@@ -12,4 +12,4 @@ mod words;
 pub use fault::NodeEnd;
 pub use nodes::run_node;
 pub use serving::{MAX_LINE, serve};
-pub use words::{LogWords, NodeStart, NodeWords, node_command, read_node_words};
+pub use words::{Home, LogWords, NodeStart, NodeWords, node_command, read_node_words};

@@ -5,7 +5,7 @@ ghost use Rattle.fr_audit_journal.specs.Replays.{ends_by_crash};
 use crate::fault::NodeEnd;
 use crate::files::{cell_device, cell_over, log_device, log_over, storage_over, store_files};
 use crate::serving::{MAX_LINE, serve};
-use crate::words::{LogWords, NodeStart, NodeWords};
+use crate::words::{Home, LogWords, NodeStart, NodeWords};
 use fr_base::{
     Ballot, Bytes, Epoch, InMemory, LogId, Machine, Memory, Node, NodeId, Shape, Tag, Version,
 };
@@ -40,8 +40,8 @@ pub fn run_node<R: Read, W: Write>(
         NodeWords::Cell {
             index,
             config,
-            folder,
-        } => cell(host, alloc, folder, *index, config, ahead, reader, writer),
+            home,
+        } => cell(host, alloc, home, *index, config, ahead, reader, writer),
         NodeWords::Log(words) => log(host, alloc, words, ahead, reader, writer),
         NodeWords::Sequencer { epoch, last } => {
             serve_sequencer(alloc, *epoch, *last, ahead, reader, writer)
@@ -140,28 +140,19 @@ fn serve_proxy<R: Read, W: Write>(
     serve(alloc, MAX_LINE, &mut proxy, ahead, reader, writer)
 }
 
-/// Serves a cell, over its file if a folder is named, else in memory.
+/// Serves a cell, over its file if it has a home, else in memory.
 fn cell<R: Read, W: Write>(
     host: &HostRuntime,
     alloc: Global,
-    folder: &Option<String>,
+    home: &Option<Home>,
     index: u8,
     config: &Option<String>,
     ahead: u64,
     reader: &mut R,
     writer: &mut W,
 ) -> Result<(), NodeEnd> {
-    match folder {
-        Some(folder) => cell_in(
-            host,
-            alloc,
-            folder.as_str(),
-            index,
-            config,
-            ahead,
-            reader,
-            writer,
-        ),
+    match home {
+        Some(home) => cell_in(host, alloc, home, index, config, ahead, reader, writer),
         None => cell_in_memory(host, alloc, index, config, ahead, reader, writer),
     }
 }
@@ -220,7 +211,7 @@ fn serve_cell<R: Read, W: Write>(
     serve(alloc, MAX_LINE, &mut cell, ahead, reader, writer)
 }
 
-/// Serves a log, over its file if a folder is named, else in memory.
+/// Serves a log, over its file if it has a home, else in memory.
 fn log<R: Read, W: Write>(
     host: &HostRuntime,
     alloc: Global,
@@ -229,8 +220,8 @@ fn log<R: Read, W: Write>(
     reader: &mut R,
     writer: &mut W,
 ) -> Result<(), NodeEnd> {
-    match &words.folder {
-        Some(folder) => log_in(host, alloc, folder.as_str(), words, ahead, reader, writer),
+    match &words.home {
+        Some(home) => log_in(host, alloc, home, words, ahead, reader, writer),
         None => log_in_memory(alloc, words, ahead, reader, writer),
     }
 }
@@ -298,11 +289,11 @@ fn config_if(
     }
 }
 
-/// Serves a cell over its file in a folder, as the world of a config starts with it if one is named.
+/// Serves a cell over its file, as the world of a config starts with it if one is named.
 fn cell_in<R: Read, W: Write>(
     host: &HostRuntime,
     alloc: Global,
-    folder: &str,
+    home: &Home,
     index: u8,
     config: &Option<String>,
     ahead: u64,
@@ -313,7 +304,7 @@ fn cell_in<R: Read, W: Write>(
     if !has_cell(&config, index) {
         return Err(NodeEnd::NotThere);
     }
-    let device = cell_device(host, alloc, folder, index)?;
+    let device = cell_device(host, alloc, home, index)?;
     let node = cell_over(alloc, device, &config)?;
     serve_kept(alloc, node, NodeId::Cell { index }, ahead, reader, writer)
 }
@@ -326,11 +317,11 @@ fn has_cell(config: &Option<Config>, index: u8) -> bool {
     }
 }
 
-/// Serves a log over its file in a folder, as a world starts with it or fresh.
+/// Serves a log over its file, as a world starts with it or fresh.
 fn log_in<R: Read, W: Write>(
     host: &HostRuntime,
     alloc: Global,
-    folder: &str,
+    home: &Home,
     words: &LogWords,
     ahead: u64,
     reader: &mut R,
@@ -340,7 +331,7 @@ fn log_in<R: Read, W: Write>(
     if index >= words.shape.m() || words.is_started && epoch != start::first_epoch() {
         return Err(NodeEnd::NotThere);
     }
-    let device = log_device(host, alloc, folder, &words.id)?;
+    let device = log_device(host, alloc, home, &words.id)?;
     let node = log_over(alloc, device, words.id, &words.shape, words.is_started)?;
     serve_kept(
         alloc,

@@ -16,15 +16,15 @@ pub struct NodeStart {
 /// Which node the words name, and how it begins.
 #[derive(Debug, Drop, PartialEq, Eq)]
 pub enum NodeWords {
-    /// A coordinator's cell: with a config as its world starts with it, else fresh. With a folder it keeps a file
-    /// there, else it is in memory.
+    /// A coordinator's cell: with a config as its world starts with it, else fresh. With a home it keeps a file there,
+    /// else it is in memory.
     Cell {
         index: u8,
         config: Option<String>,
-        folder: Option<String>,
+        home: Option<Home>,
     },
-    /// A log: if it is started one that a world starts with, else fresh. With a folder it keeps a file there, else it
-    /// is in memory.
+    /// A log: if it is started one that a world starts with, else fresh. With a home it keeps a file there, else it is
+    /// in memory.
     Log(LogWords),
     /// A sequencer, which gave this version last.
     Sequencer {
@@ -55,13 +55,20 @@ pub enum NodeWords {
 }
 
 /// Which log the words name: its place, the shape of its generation, and whether a world starts with it; over a file in
-/// a folder, or in memory.
+/// its home, or in memory.
 #[derive(Debug, Drop, PartialEq, Eq)]
 pub struct LogWords {
     pub id: LogId,
     pub shape: Shape,
     pub is_started: bool,
-    pub folder: Option<String>,
+    pub home: Option<Home>,
+}
+
+/// The folder of a cell's or a log's file, and how many bytes the file has room for. One that has more already is full.
+#[derive(Debug, Drop, PartialEq, Eq)]
+pub struct Home {
+    pub folder: String,
+    pub room: usize,
 }
 
 /// The command `node`, with a command below it for each kind of node.
@@ -90,6 +97,7 @@ fn cell_command<'a>(alloc: Global) -> Result<Command<'a>, Error> {
         .arg(few(alloc, "index", "Its number, 0 to 8", 0, 8).required(true))?
         .arg(config_word(alloc).help("The file that holds the config of the world, with --start"))?
         .arg(folder_word(alloc))?
+        .arg(room_word(alloc))?
         .arg(start_word(alloc))?
         .arg(ahead_word(alloc))?;
     Ok(cell)
@@ -110,6 +118,7 @@ fn log_command<'a>(alloc: Global) -> Result<Command<'a>, Error> {
         )
         .required(true))?
         .arg(folder_word(alloc))?
+        .arg(room_word(alloc))?
         .arg(start_word(alloc))?
         .arg(ahead_word(alloc))?;
     Ok(log)
@@ -236,6 +245,29 @@ fn read_folder(alloc: Global, matches: &ArgMatches<'_>) -> Result<Option<String>
     }
 }
 
+/// How many bytes the file has room for, from a page to a terabyte. The default lasts a log for a million commits.
+fn room_word<'a>(alloc: Global) -> Arg<'a> {
+    Arg::new(alloc, "room")
+        .long("room")
+        .help("How many bytes its file has room for, with --dir")
+        .value_name("BYTES")
+        .value_parser(value_parser!(u64).range(4_096..=1_099_511_627_776))
+        .action(ArgAction::Set)
+        .default_value("268435456")
+}
+
+/// The folder and the room, if a folder is there.
+fn read_home(alloc: Global, matches: &ArgMatches<'_>) -> Result<Option<Home>, AllocError> {
+    let room = matches.get_one::<u64>("room").unwrap_or(0);
+    match read_folder(alloc, matches)? {
+        Some(folder) => Ok(Some(Home {
+            folder,
+            room: room as usize,
+        })),
+        None => Ok(None),
+    }
+}
+
 /// How far ahead numbers may be. No run takes 2^32 rounds, stamps or commits at one step, and it leaves most of the 2^40
 /// rounds and stamps that there are.
 fn ahead_word<'a>(alloc: Global) -> Arg<'a> {
@@ -320,7 +352,7 @@ fn read_shape(matches: &ArgMatches<'_>) -> Option<Option<Shape>> {
 /// A cell is as a world starts with it if both its config and `start` are there.
 fn read_cell(alloc: Global, matches: &ArgMatches<'_>) -> Result<Option<NodeWords>, AllocError> {
     let index = matches.get_one::<u8>("index").unwrap_or(0);
-    let folder = read_folder(alloc, matches)?;
+    let home = read_home(alloc, matches)?;
     let config = match matches.get_str("config") {
         Some(name) => Some(String::from_str(alloc, name)?),
         None => None,
@@ -329,7 +361,7 @@ fn read_cell(alloc: Global, matches: &ArgMatches<'_>) -> Result<Option<NodeWords
         Ok(Some(NodeWords::Cell {
             index,
             config,
-            folder,
+            home,
         }))
     } else {
         Ok(None)
@@ -337,7 +369,7 @@ fn read_cell(alloc: Global, matches: &ArgMatches<'_>) -> Result<Option<NodeWords
 }
 
 fn read_log(alloc: Global, matches: &ArgMatches<'_>) -> Result<Option<NodeWords>, AllocError> {
-    let folder = read_folder(alloc, matches)?;
+    let home = read_home(alloc, matches)?;
     let index = matches.get_one::<u8>("index").unwrap_or(0);
     let is_started = matches.get_flag("start");
     match (read_epoch(matches), read_shape(matches)) {
@@ -346,7 +378,7 @@ fn read_log(alloc: Global, matches: &ArgMatches<'_>) -> Result<Option<NodeWords>
                 id: LogId { epoch, index },
                 shape,
                 is_started,
-                folder,
+                home,
             },
         ))),
         _ => Ok(None),

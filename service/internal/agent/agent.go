@@ -348,7 +348,7 @@ func (a *Agent) standing() *wire.Alive {
 	its.Fsync = a.fsyncs.Percentile(0.99)
 	for token, each := range its.Nodes {
 		if n := a.find(token); n != nil {
-			each.Slow, each.Bytes = n.slow.Percentile(0.99), a.bytesOf(token)
+			each.Slow, each.Bytes = n.slow.Percentile(0.99), a.bytesOf(n)
 		}
 	}
 	return its
@@ -359,7 +359,11 @@ func (a *Agent) alive() *wire.Alive {
 		Counts: a.bus.Counts.All()}
 	its.Newest, _ = a.newestAndMoved()
 	for _, n := range a.all() {
-		its.Nodes[n.name.Token()] = n.view()
+		view := n.view()
+		if n.name.Kind == "log" {
+			view.Bytes = a.bytesOf(n) // (a keeper ends a generation before its files are full)
+		}
+		its.Nodes[n.name.Token()] = view
 	}
 	var disk syscall.Statfs_t
 	if syscall.Statfs(a.room, &disk) == nil {

@@ -67,9 +67,8 @@ func truth(is bool) int {
 	return 0
 }
 
-func (a *Agent) bytesOf(token string) int64 {
-	n, size := a.find(token), int64(0)
-	if n == nil || !n.name.HasFiles() {
+func (a *Agent) bytesOf(n *node) (size int64) {
+	if !n.name.HasFiles() {
 		return 0
 	}
 	for _, path := range a.files(n.name) {

@@ -234,6 +234,9 @@ func (a *Agent) words(order wire.Order) ([]string, error) {
 	if order.Node.HasFiles() {
 		its = append(its, "--dir", filepath.Join(a.room, "files"))
 	}
+	if kind := order.Node.Kind; kind == "cell" || kind == "log" {
+		its = append(its, "--room", fmt.Sprint(a.config.FileRoom))
+	}
 	if kind := order.Node.Kind; kind == "log" || kind == "sequencer" {
 		return its, nil
 	}

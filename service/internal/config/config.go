@@ -60,6 +60,8 @@ type Config struct {
 	JournalFsync  bool
 	JournalRotate int64
 
+	FileRoom int64 // how many bytes the file of a cell or a log has room for
+
 	Machines []*Machine
 	Keepers  []*Keeper
 }
@@ -83,6 +85,7 @@ func Parse(path, text string) (*Config, error) {
 		Path: path, Programs: map[string][]string{}, MaxPayload: 64 << 20,
 		Alive: 100 * time.Millisecond, Suspect: time.Second, Progress: 2 * time.Second, Again: 50 * time.Millisecond,
 		Recovery: 10 * time.Second, Start: 10 * time.Second, Patience: 60 * time.Second, JournalKeep: true, JournalRotate: 64 << 20,
+		FileRoom: 256 << 20,
 	}
 	for _, table := range tables {
 		if err := it.take(table); err != nil {
@@ -107,6 +110,8 @@ func (c *Config) take(table *Table) error {
 		fields = c.timeFields()
 	case "journal":
 		fields = c.journalFields()
+	case "files":
+		fields = c.fileFields()
 	case "programs":
 		fields = c.programFields()
 	case "machine[]":
@@ -119,7 +124,7 @@ func (c *Config) take(table *Table) error {
 		fields = keeper.fields()
 	default:
 		return &Fault{c.Path, table.Line, "there is no table [" + table.Name + "]; " +
-			"[nats], [time], [journal], [programs], [[machine]] and [[keeper]] are"}
+			"[nats], [time], [journal], [files], [programs], [[machine]] and [[keeper]] are"}
 	}
 	return fill(c.Path, table, fields)
 }
