@@ -72,7 +72,13 @@ func FirstNodes(c *config.Config, machine *config.Machine) []wire.Order {
 		found = append(found, wire.Order{Do: "start", Node: names.Node{Kind: kind, First: first, Second: second},
 			Logs: c.Logs, Degree: c.Degree, Last: 1, First: true})
 	}
-	mine := func(at uint64) bool { return c.Machines[at%uint64(len(c.Machines))] == machine }
+	var all []string
+	for _, each := range c.Machines {
+		all = append(all, each.Name)
+	}
+	count := uint64(len(all))
+	c.SetApart(all, SequencerAt(c.Logs)%count)
+	mine := func(at uint64) bool { return all[at%count] == machine.Name }
 	for _, index := range machine.Cells {
 		add("cell", index, 0)
 	}

@@ -43,6 +43,9 @@ func TestFirstNodes(t *testing.T) {
 			if len(on) != 3+2+3+1+int(proxies) {
 				t.Errorf("%d machines, %d proxies: %v", machines, proxies, on)
 			}
+			if apart := c.Machine(on["sequencer-257"]); len(apart.Storages) > 0 {
+				t.Errorf("the sequencer is on %s, which has storage servers", apart.Name)
+			}
 			for at := uint64(0); at < proxies && at < 2; at++ {
 				if its := fmt.Sprint("proxy-257-", at); on[its] != on["sequencer-257"] {
 					t.Errorf("%s is on %s, the sequencer on %s", its, on[its], on["sequencer-257"])

@@ -139,6 +139,18 @@ func (c *Config) Machine(name string) *Machine {
 	return nil
 }
 
+// SetApart puts a machine without storage servers at a place, if there is one: the sequencer and the first proxies are to
+// be there. A client whose answer is lost with its proxy asks a storage server what became of its put, so that it would
+// wait until both came back if one machine had both.
+func (c *Config) SetApart(machines []string, at uint64) {
+	for other, name := range machines {
+		if len(c.Machine(name).Storages) == 0 {
+			machines[other], machines[at] = machines[at], machines[other]
+			return
+		}
+	}
+}
+
 // Keeper finds a keeper by its number.
 func (c *Config) Keeper(number uint64) *Keeper {
 	for _, keeper := range c.Keepers {

@@ -105,8 +105,8 @@ func TestFilledByItsSeed(t *testing.T) {
 	if why := k.suspect(now.Add(time.Millisecond)); !strings.HasPrefix(why, "log 257 1 has a file of 3500 bytes") {
 		t.Errorf("an old epoch: %q", why)
 	}
-	found.Bytes = 3501
-	if why := k.suspect(now); !strings.HasPrefix(why, "log 257 1 has a file of 3501 bytes") {
+	k.opened, found.Bytes = now, 3501
+	if why := k.suspect(now.Add(2 * time.Millisecond)); !strings.HasPrefix(why, "log 257 1 has a file of 3501 bytes") {
 		t.Errorf("it grew by a quarter: %q", why)
 	}
 }
@@ -345,7 +345,7 @@ func TestApart(t *testing.T) {
 		{"m2 m1", 1, "m2 m1"}, {"m1 m0", 1, "m1 m0"}, {"m1", 0, "m1"},
 	} {
 		its := strings.Fields(row.machines)
-		if k.setApart(its, row.at); strings.Join(its, " ") != row.wanted {
+		if k.config.SetApart(its, row.at); strings.Join(its, " ") != row.wanted {
 			t.Errorf("%s at %d: %v, wanted %s", row.machines, row.at, its, row.wanted)
 		}
 	}

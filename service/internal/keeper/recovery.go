@@ -53,7 +53,7 @@ func (k *Keeper) begin(now time.Time, why string) string {
 	its.machines, its.sound = k.choose(live, now)
 	live = its.machines
 	its.logs, its.degree = least(k.config.Logs, uint64(len(live))), k.config.Degree
-	k.setApart(live[:its.sound], agent.SequencerAt(its.logs)%uint64(its.sound))
+	k.config.SetApart(live[:its.sound], agent.SequencerAt(its.logs)%uint64(its.sound))
 	its.until = now.Add(k.config.Recovery << uint(least(uint64(k.failed), 3)))
 	k.trying = its
 	k.log.Warn("recovery", "ballot", its.ballot, "why", why, "machines", len(live), "logs", its.logs, "degree", its.degree)
@@ -102,18 +102,6 @@ func (k *Keeper) choose(live []string, now time.Time) ([]string, int) {
 		live = live[:sound]
 	}
 	return live, sound
-}
-
-// setApart puts a machine without storage servers at a place, if there is one: the sequencer and the first proxies are to
-// be there. A client whose answer is lost with its proxy asks a storage server what became of its put, so that it would
-// wait until both came back if one machine had both.
-func (k *Keeper) setApart(machines []string, at uint64) {
-	for other, name := range machines {
-		if len(k.config.Machine(name).Storages) == 0 {
-			machines[other], machines[at] = machines[at], machines[other]
-			return
-		}
-	}
 }
 
 // isPoor says whether a machine has little room, or a node there fails, or it refused to start one: others are taken first.
