@@ -154,6 +154,42 @@ def failed(checks, command):
         checks.check((stands, status, text) == (wanted, 0, ""), "after it the log stands at", stands, status, text)
 
 
+def full(checks, command):
+    """A file without room: a line that would need a byte more is refused and changes nothing, and one that needs no more
+    is taken; with more room the log goes on. (A push of one set of a byte's key is a record of 42 bytes and its value,
+    and stands behind five of its own.)"""
+
+    def bodies(len):
+        big = [{"set": {"key": "61", "value": "00" * len}}]
+        return lines.asked(9, lines.proxy(513), lines.push(11, 13, 11, [[0, big]]), 10, {}, {})[0]
+
+    with tempfile.TemporaryDirectory() as room:
+        files = Files(checks, command, room)
+        os.mkdir(f"{room}/files")
+        little = [*LOG, "--room", "4096"]
+        files.run(little, "files", [lines.LOGS[2][0], lines.LOGS[4][0]])
+        was = content(f"{room}/files")["log-513-0"]
+        most = 4096 - len(was) - 5 - 42
+        found, status, text = files.run(little, "files", [bodies(most + 1), INIT])
+        types = [(it["type"], it.get("code"), it.get("text")) for it in found]
+        is_so = types == [("error", 14, "Full"), ("init_ok", None, None)] and (status, text) == (0, "")
+        checks.check(is_so, "a push without room:", types, status, text)
+        checks.check(found[-1].get("last") == lines.log_last(11, 9), "it changed the log:", found[-1])
+        checks.check(content(f"{room}/files")["log-513-0"] == was, "it changed the file")
+        found, status, text = files.run(little, "files", [bodies(most), INIT])
+        types = [(it["type"], it.get("last")) for it in found]
+        size = len(content(f"{room}/files")["log-513-0"])
+        is_so = types[0][0] == "ask_ok" and types[1:] == [("init_ok", lines.log_last(13, 11))] and size == 4096
+        checks.check(is_so, "a push with just room:", size, types)
+        lock = {"log": {"lock": {"epoch": 513}}}
+        lock = {"type": "ask", "at": 19, "from": {"recoverer": {"ballot": 769}}, "ask": lock}
+        for words, wanted in ((little, ("error", "Full")), (LOG, ("ask_ok", None))):
+            found, status, text = files.run(words, "files", [lock])
+            types = [(it["type"], it.get("text")) for it in found]
+            is_so = (types, status, text) == ([wanted], 0, "")
+            checks.check(is_so, "a lock of a log that is full:", words, types, status, text)
+
+
 def lines_that_fail(checks, command):
     """Lines in and out that fail, or are cut off."""
     words, given = [*command, *CELL], line("cell 0", 1, {"type": "last"})

@@ -62,7 +62,10 @@ NODE = Command(
     "node",
     below=(
         Command("cell", (_number("index", 0, 8, is_required=True), _file("config"), _DIR, _ROOM, _START, _AHEAD)),
-        Command("log", (_wide("epoch"), _number("index", 0, 15, is_required=True), *_NEEDED, _START, _DIR, _ROOM, _AHEAD)),
+        Command(
+            "log",
+            (_wide("epoch"), _number("index", 0, 15, is_required=True), *_NEEDED, _START, _DIR, _ROOM, _AHEAD),
+        ),
         Command("sequencer", (_wide("epoch"), _wide("last"), _AHEAD)),
         Command("storage", (_number("tag", 0, 31, is_required=True), _CONFIG, _DIR, _AHEAD)),
         Command(

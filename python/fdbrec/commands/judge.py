@@ -23,24 +23,7 @@ import time
 from ..reading import judging
 from ..scripts import collected
 from . import ending, reports
-
-
-class Progress:
-    """How far a long input is, on a terminal."""
-
-    def __init__(self):
-        self.began, self.is_shown = time.monotonic(), False
-        self.is_wanted = sys.stderr is not None and sys.stderr.isatty()
-
-    def show(self, text):
-        if self.is_wanted and time.monotonic() > self.began + 1:
-            print(f"\r\033[K{text}", end="", file=sys.stderr, flush=True)
-            self.is_shown = True
-
-    def end(self):
-        if self.is_shown:
-            print("\r\033[K", end="", file=sys.stderr, flush=True)
-            self.is_shown = False
+from .progress import Progress
 
 
 def parsed(words):

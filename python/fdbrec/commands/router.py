@@ -31,7 +31,8 @@ The counts, which are those of all seeds together if there are several:
   rollbacks              storage servers that went back to an earlier version, by so many `versions undone` in all
   batches acknowledged   committed, as their proxies said; `waiting`: nothing was said of them; `taken back`: numbered,
                          and then cut off by a recovery
-docs/NODES.md says what lines go to and fro. A node that answers by another form ends its seed, and is named.
+docs/NODES.md says what lines go to and fro. A node that answers by another form ends its seed, and is named. On a
+terminal a long run shows how far it is.
 """
 import argparse
 import collections
@@ -51,6 +52,7 @@ from ..routing.processes import NUMBERS, Trouble
 from ..routing.story import Story
 from ..scripts import places, quick
 from . import ending
+from .progress import Progress
 
 PACKAGE = os.path.dirname(os.path.dirname(os.path.realpath(__file__)))
 TOP = os.path.dirname(os.path.dirname(PACKAGE))
@@ -166,10 +168,13 @@ def auditor():
 def play(seed, room, words, without=()):
     """Plays a seed in a folder: the line of the audit or what went wrong, and the counts."""
     story = trace = None
+    progress = Progress(len(words.seeds) == 1)
     try:
         os.makedirs(room, exist_ok=True)
         story = Story(seed, room, commands_of(words.node), words.store == "files")
-        story.play(words.steps, words.kills, set(without))
+        heed = lambda step: progress.show(f"step {step:,} of {words.steps:,}")
+        story.play(words.steps, words.kills, set(without), heed)
+        progress.show("its journals are audited")
         script = story.script()
         story.close()
         line = judged(room, script, words.audit or auditor())
@@ -181,6 +186,7 @@ def play(seed, room, words, without=()):
         line = f"the router failed, and no node: {why!r} (its trace is in router.json)"
         trace = traceback.format_exc()
     finally:
+        progress.end()
         if story:
             story.drop()
     counts = story.counts if story else collections.Counter()
@@ -250,12 +256,14 @@ def one(seed, room, words):
 
 def several(words, room):
     """Plays seeds side by side, and says which ones fail."""
-    total, good = collections.Counter(), 0
+    total, good, progress = collections.Counter(), 0, Progress()
     with concurrent.futures.ProcessPoolExecutor(words.jobs) as pool:
         rooms = {seed: f"{room}/seed-{seed}" for seed in words.seeds}
         begun = {seed: pool.submit(one, seed, rooms[seed], words) for seed in words.seeds}
-        for seed, it in begun.items():
+        for done, (seed, it) in enumerate(begun.items()):
+            progress.show(f"{done} of {len(words.seeds)} seeds")
             line, counts, more = it.result()
+            progress.end()
             total.update(counts)
             good += line == "audit ok"
             if line != "audit ok":

@@ -17,11 +17,12 @@ def phase_of(it):
 class Story(Cluster):
     """`without` are steps that are left out; the one behind the last is that the cluster comes to rest."""
 
-    def play(self, steps, kills, without=()):
+    def play(self, steps, kills, without=(), heed=lambda step: None):
         fatal = drawing.kills_of(self.seed, steps, kills)
         for step in range(steps):
             if step in without:
                 continue
+            heed(step)
             dice = drawing.Dice(self.seed, "step", step)
             if step in fatal:
                 self.kill(dice)
