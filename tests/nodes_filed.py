@@ -155,9 +155,9 @@ def failed(checks, command):
 
 
 def full(checks, command):
-    """A file without room: a line that would need a byte more is refused and changes nothing, and one that needs no more
-    is taken; with more room the log goes on. (A push of one set of a byte's key is a record of 42 bytes and its value,
-    and stands behind five of its own.)"""
+    """A file without room: a line that would need a byte more is refused and changes nothing, and one that needs none
+    more is taken; with more room the log goes on. (A push of one set of a byte's key is a record of 42 bytes and its
+    value, and stands behind five of its own.)"""
 
     def bodies(len):
         big = [{"set": {"key": "61", "value": "00" * len}}]
