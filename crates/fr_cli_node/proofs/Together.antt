@@ -1,11 +1,15 @@
 -- A log's asks as one group: where it stands behind each of them, and what they are told.
 use Rattle.std.proofs.Common.{refl, sym, subst, ap, ◌∙◌, arith}
-use Rattle.std.proofs.lemmas.Bool.{ltb-true, ltb-false, le-leb}
-use Rattle.std.specs.Prelude.{ℕ, Bool, true, false, ◌≡◌, ◌<◌, ◌≤◌, nat_lt, max, fold, is_some, List, [], ◌∷◌, ◌++◌, Option, None, Some}
+use Rattle.std.proofs.lemmas.Bool.{ltb-true, ltb-false}
+use Rattle.std.specs.Prelude.{ℕ, Bool, true, false, ◌≡◌, ◌<◌, ◌≤◌, nat_lt, max, fold, is_some, List, [], ◌∷◌, ◌++◌, Option, None, Some, Result, Ok, Err, IfOk}
 use Rattle.std.specs.List.{list_any}
 use Rattle.fr_ask.specs.Named.{last_of_log}
+use Rattle.fr_ask.specs.declared.ask.Ask.{Ask}
+use Rattle.fr_ask.specs.declared.ask.Ask.TheVariants as ask
 use Rattle.fr_ask.specs.declared.last.Last.{Last}
 use Rattle.fr_ask.specs.declared.last.Last.TheVariants as last
+use Rattle.fr_ask.specs.declared.tell.Tell.{Tell}
+use Rattle.fr_ask.specs.declared.tell.Tell.TheVariants as tell
 use Rattle.fr_log.specs.Law.{NewPushRaises, OnePushIsSame, is_newly_held}
 use Rattle.fr_log.specs.Left.{left_push}
 use Rattle.fr_log.specs.LogState.{LogState, durable_of, known_of, is_push_held}
@@ -20,7 +24,7 @@ use Rattle.fr_log.specs.declared.ask.LogTell.{LogTell}
 use Rattle.fr_log.specs.declared.ask.LogTell.TheVariants.{Held, Refused}
 use Rattle.fr_node.specs.Groups as groups
 use Rattle.fr_record_node.specs.Several as several
-use Rattle.fr_cli_node.specs.Together.{IsGroupedPush, grouped, came_to, raised, last_behind_log}
+use Rattle.fr_cli_node.specs.Together.{IsGroupedPush, grouped, came_to, owned_log, raised, last_behind_log}
 
 pub same-told : {M A T : Type 0} (after : M → A → M) (told : M → A → T) (m : M) (asks : List A) → several.told_all after told m asks ≡ groups.told_all after told m asks
 same-told after told m [] = refl
@@ -34,11 +38,12 @@ from-low b (q ∷ qs) = let r = from-low (max b q.version) qs in omega (arith, r
 
 any-low : (f : PushContent → Bool) (v b : ℕ) (qs : List PushContent) → ((q : PushContent) → f q ≡ true → v ≡ q.version) → list_any f qs ≡ true → v ≤ fold (λ w q. max w q.version) b qs
 any-low f v b [] same e = absurd (cc e)
-any-low f v b (q ∷ qs) same e = go (f q) refl
+any-low f v b (q ∷ qs) same e = go (f q) refl (any-low f v (max b q.version) qs same)
   where
-    go : (s : Bool) → f q ≡ s → v ≤ fold (λ w x. max w x.version) (max b q.version) qs
-    go true h = let is = same q h in let r = from-low (max b q.version) qs in omega (arith, is, r)
-    go false h = any-low f v (max b q.version) qs same (sym (rw h refl) ∙ e)
+    go : (s : Bool) → f q ≡ s → (list_any f qs ≡ true → v ≤ fold (λ w x. max w x.version) (max b q.version) qs)
+        → v ≤ fold (λ w x. max w x.version) (max b q.version) qs
+    go true h rest = let is = same q h in let r = from-low (max b q.version) qs in omega (arith, is, r)
+    go false h rest = rest (sym (rw h refl) ∙ e)
 
 held-low : OnePushIsSame → (s : LogState) (p : PushContent) → is_push_held s p ≡ true → p.version ≤ durable_of s
 held-low one s p h =
@@ -114,3 +119,20 @@ grouped-itself (Lock epoch) b e = absurd (cc e)
 grouped-itself (Peek epoch tag after most) b e = cc e
 grouped-itself (MarkAsked epoch) b e = cc e
 grouped-itself (Pop epoch tag through) b e = absurd (cc e)
+
+-- a log's state behind an ask that stands in groups, from what that was told
+pub last-behind : NewPushRaises → OnePushIsSame → (l : Last) (asked : Ask) (told : Tell) (a : LogAsk) (t : LogTell) (s : LogState) (own : LogAsk)
+    → asked ≡ ask.Log a → told ≡ tell.Log t → IsGroupedPush a → l ≡ last_of_log s → owned_log asked ≡ Some own → told ≡ tell.Log (answer_of s own)
+    → last_behind_log l a t ≡ last_of_log (after_ask s own)
+last-behind raises one l asked told a t s own is tells sound stands owns says =
+    let g : grouped a ≡ Some own = ap owned_log (sym is) ∙ owns in
+    let same : own ≡ a = sym (grouped-itself a own g) in
+    let one_tell : tell.Log t ≡ tell.Log (answer_of s own) = sym tells ∙ says in
+    let said : t ≡ answer_of s a = cc one_tell ∙ ap (answer_of s) same in
+    ap (λ (x : Last). last_behind_log x a t) stands ∙ (ap (last_behind_log (last_of_log s) a) said ∙ (behind-is raises one s a own g sound ∙ ap (λ (x : LogAsk). last_of_log (after_ask s x)) (sym same)))
+
+pub last-if : {E : Type 0} → NewPushRaises → OnePushIsSame → (l : Last) (asked : Ask) (told : Tell) (a : LogAsk) (t : LogTell) (r : Result Last E)
+    → asked ≡ ask.Log a → told ≡ tell.Log t → IfOk r (λ later. later ≡ last_behind_log l a t) → IfOk r (λ later. IsGroupedPush a)
+    → IfOk r (λ later. (s : LogState) (own : LogAsk) → l ≡ last_of_log s → owned_log asked ≡ Some own → told ≡ tell.Log (answer_of s own) → later ≡ last_of_log (after_ask s own))
+last-if raises one l asked told a t (Ok later) is tells behind sound = λ s own stands owns says. behind ∙ last-behind raises one l asked told a t s own is tells sound stands owns says
+last-if raises one l asked told a t (Err e) is tells behind sound = tt

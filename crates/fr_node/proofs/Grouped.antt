@@ -1,7 +1,7 @@
 -- Several turns as one group.
 use Rattle.std.proofs.Common.{refl, sym, subst, ap, ◌∙◌, arith, append_assoc}
 use Rattle.std.proofs.lemmas.List.{append-nil, drop_more}
-use Rattle.std.specs.Prelude.{ℕ, Bool, true, false, ◌≡◌, ◌<◌, ◌==◌, ◌+◌, ◌-◌, ◌^◌, max, ◌++◌, List, [], ◌∷◌, length, get_or, drop, map, cond, Option, None, Some}
+use Rattle.std.specs.Prelude.{ℕ, Bool, true, false, ◌≡◌, ◌<◌, ◌==◌, ◌+◌, ◌-◌, ◌^◌, max, ◌++◌, List, [], ◌∷◌, length, get_or, drop, map, cond, Option, None, Some, IfSome}
 use Rattle.std.specs.Option.{option_map, option_and_then}
 use Rattle.fr_base.specs.declared.place.NodeId.{NodeId}
 use Rattle.fr_ask.specs.declared.ask.Ask.{Ask}
@@ -149,15 +149,21 @@ taken-all m show first es last [] [] tells e many = append-nil es
 taken-all m show first es last [] (d ∷ ds) tells e many = absurd (cc e)
 taken-all m show first es last (t ∷ ts) ds tells e many =
     let f = first-draft last t ts ds e in
-    subst (λ (x : List Draft). Goes m show first es (t ∷ ts) x tells) (sym f.are) (go f.head f.rest tells (draft-is last t.0 t.1 f.head f.one) f.others (many ∙ ap length f.are))
+    subst (λ (x : List Draft). Goes m show first es (t ∷ ts) x tells) (sym f.are)
+    (go f.head f.rest tells (λ longer stamp ds tells. taken-all m show first longer stamp ts ds tells) (draft-is last t.0 t.1 f.head f.one) f.others (many ∙ ap length f.are))
   where
-    go : (d : Draft) (ds : List Draft) (tells : List Tell) → IsDraft last t.0 t.1 d → drafts_of d.stamp ts ≡ Some ds → length tells ≡ length (d ∷ ds) → Goes m show first es (t ∷ ts) (d ∷ ds) tells
-    go d ds [] is others many = absurd (omega (arith, many))
-    go d ds (x ∷ tells) is others many =
+    -- what is so of the turns behind the first one
+    Behind : Type 0
+    Behind = (longer : List Entry) (stamp : ℕ) (ds : List Draft) (tells : List Tell) → drafts_of stamp ts ≡ Some ds → length tells ≡ length ds → Goes m show first longer ts ds tells
+
+    go : (d : Draft) (ds : List Draft) (tells : List Tell) → Behind → IsDraft last t.0 t.1 d → drafts_of d.stamp ts ≡ Some ds → length tells ≡ length (d ∷ ds)
+        → Goes m show first es (t ∷ ts) (d ∷ ds) tells
+    go d ds [] behind is others many = absurd (omega (arith, many))
+    go d ds (x ∷ tells) behind is others many =
         let e : Entry = record { stamp = d.stamp; act = act.Asked d.from d.ask x } in
         let longer = es ++ e ∷ [] in
         let step : state_after m first longer ≡ after_act m (state_after m first es) e.act = state-append m first es e in
-        let rest = taken-all m show first longer d.stamp ts ds tells others (omega (arith, many)) in
+        let rest = behind longer d.stamp ds tells others (omega (arith, many)) in
         let whole = subst (λ (n : List Entry). AreTaken (λ (y : List Entry). show (state_after m first y)) longer n ts (stood show (after_act m) (state_after m first longer) (entered ds tells))) (append_assoc es (e ∷ []) (entered ds tells)) rest in
         let stands = subst (λ s. AreTaken (λ (y : List Entry). show (state_after m first y)) longer (es ++ e ∷ entered ds tells) ts (stood show (after_act m) s (entered ds tells))) step whole in
         (record { entries = refl; above = is.above; act = subst (λ (y : NodeTurn). IsOf y e.act) (sym is.is) (refl, refl) }, (ap show (sym step), stands))
@@ -220,6 +226,14 @@ pub entered-step : (ds rest : List Draft) (xs more : List Tell) (d : Draft) (x :
 entered-step ds rest xs more d x es longer total is told put inv =
     let e : Entry = record { stamp = d.stamp; act = act.Asked d.from d.ask x } in
     ap (λ l. l ++ entered rest more) put ∙ (append_assoc es (e ∷ []) (entered rest more) ∙ (ap (λ l. es ++ l) (sym (ap (λ l. entered l xs) is ∙ ap (entered (d ∷ rest)) told)) ∙ inv))
+
+-- ---- what an option has that is there
+
+pub found-some : {A V : Type 0} (items : V → A) (o : Option V) (v : V) (w : Option A) → option_map items o ≡ w → o ≡ Some v → w ≡ Some (items v)
+found-some items o v w e is = sym e ∙ ap (option_map items) is
+
+pub if-some : {V : Type 0} (P : V → Type 0) (o : Option V) (v : V) → IfSome o P → o ≡ Some v → P v
+if-some P o v h is = subst (λ x. IfSome x P) is h
 
 -- ---- a node that took a group
 
