@@ -58,3 +58,12 @@ IsPutFault calls end.NotThere = ⊥
 IsPutFault calls end.NoFile = ⊥
 IsPutFault calls end.Busy = ⊥
 IsPutFault calls (end.Crashed why) = why ≡ crash.Memory
+
+-- a line is not answered if the node cannot go on, out of memory, or if a call of the writer failed
+abbrev pub IsAnswerFault : (Crash → Type 0) → Counts → NodeEnd → Type 0
+IsAnswerFault CanCrash calls (end.Command f) = (f ≡ cli.Output) × (0 < calls.failed_writes)
+IsAnswerFault CanCrash calls end.NoConfig = ⊥
+IsAnswerFault CanCrash calls end.NotThere = ⊥
+IsAnswerFault CanCrash calls end.NoFile = ⊥
+IsAnswerFault CanCrash calls end.Busy = ⊥
+IsAnswerFault CanCrash calls (end.Crashed why) = IsEnd CanCrash why

@@ -7,6 +7,8 @@ mod files;
 mod lines;
 mod nodes;
 mod serving;
+mod together;
+mod waiting;
 mod words;
 
 pub use fault::NodeEnd;

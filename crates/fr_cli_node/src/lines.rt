@@ -7,7 +7,7 @@ use std::alloc::Global;
 use std::io::{ErrorKind, Read};
 
 /// The most bytes that one read gives.
-const READ_SIZE: usize = 8192;
+const READ_SIZE: usize = 32_768;
 
 /// What a reader has next.
 #[derive(Debug, Drop)]
@@ -74,6 +74,13 @@ impl Lines {
             chunk: Vec::new(alloc),
             from: 0,
         }
+    }
+
+    /// Whether a whole line was read that is not given out.
+    pub(crate) fn has_whole(&self) -> bool {
+        self.chunk.as_slice()[self.from..]
+            .iter()
+            .any(|byte| *byte == b'\n')
     }
 
     /// The next line, of at most so many bytes. What follows the last end of a line is a line too.

@@ -5,6 +5,7 @@ ghost use Rattle.fr_audit_journal.specs.Replays.{ends_by_crash};
 use crate::fault::NodeEnd;
 use crate::files::{cell_device, cell_over, log_device, log_over, storage_over, store_files};
 use crate::serving::{MAX_LINE, serve};
+use crate::together::Together;
 use crate::words::{Home, LogWords, NodeStart, NodeWords};
 use fr_base::{
     Ballot, Bytes, Epoch, InMemory, LogId, Machine, Memory, Node, NodeId, Shape, Tag, Version,
@@ -13,7 +14,7 @@ use fr_cli_json::CliFault;
 use fr_epoch::Recoverer;
 use fr_log::Log;
 use fr_mutation::Shard;
-use fr_node::{Answering, Passive, ProxyNode, RecovererNode, StorageNode};
+use fr_node::{Answering, Apart, Grouping, Groups, Passive, ProxyNode, RecovererNode, StorageNode};
 use fr_node_lines::{ScriptFault, read_config};
 use fr_proxy::{Proxy, Sequencer};
 use fr_register::Cell;
@@ -207,7 +208,7 @@ fn serve_cell<R: Read, W: Write>(
     writer: &mut W,
 ) -> Result<(), NodeEnd> {
     let node = InMemory::new(cell);
-    let mut cell = Passive::new(alloc, node, NodeId::Cell { index }, false);
+    let mut cell: Passive<_, Apart> = Passive::new(alloc, node, NodeId::Cell { index }, false);
     serve(alloc, MAX_LINE, &mut cell, ahead, reader, writer)
 }
 
@@ -241,7 +242,7 @@ fn log_in_memory<R: Read, W: Write>(
         fresh_log(alloc, epoch, index, &words.shape)?
     };
     let place = NodeId::Log { epoch, index };
-    let mut log = Passive::new(alloc, InMemory::new(log), place, false);
+    let mut log: Passive<_, Apart> = Passive::new(alloc, InMemory::new(log), place, false);
     serve(alloc, MAX_LINE, &mut log, ahead, reader, writer)
 }
 
@@ -306,7 +307,7 @@ fn cell_in<R: Read, W: Write>(
     }
     let device = cell_device(host, alloc, home, index)?;
     let node = cell_over(alloc, device, &config)?;
-    serve_kept(alloc, node, NodeId::Cell { index }, ahead, reader, writer)
+    serve_kept::<_, Apart, _, _>(alloc, node, NodeId::Cell { index }, ahead, reader, writer)
 }
 
 /// Whether a config, if there is one, has so many cells.
@@ -333,7 +334,7 @@ fn log_in<R: Read, W: Write>(
     }
     let device = log_device(host, alloc, home, &words.id)?;
     let node = log_over(alloc, device, words.id, &words.shape, words.is_started)?;
-    serve_kept(
+    serve_kept::<_, Together, _, _>(
         alloc,
         node,
         NodeId::Log { epoch, index },
@@ -344,7 +345,7 @@ fn log_in<R: Read, W: Write>(
 }
 
 /// Serves a node over its file.
-fn serve_kept<N: Node + Drop, R: Read, W: Write>(
+fn serve_kept<N: Node + Drop, G: Groups<N> + Grouping<N::Plain>, R: Read, W: Write>(
     alloc: Global,
     node: N,
     place: NodeId,
@@ -355,10 +356,11 @@ fn serve_kept<N: Node + Drop, R: Read, W: Write>(
 where
     N::Plain: Answering,
     <N::Plain as Machine>::Ask: Drop,
+    <N::Plain as Machine>::Tell: Drop,
     requires stays { ends_by_crash place ≡ false }
     requires works { N.is_failed node ≡ false }
 {
-    let mut served = Passive::new(alloc, node, place, true);
+    let mut served: Passive<N, G> = Passive::new(alloc, node, place, true);
     serve(alloc, MAX_LINE, &mut served, ahead, reader, writer)
 }
 
@@ -371,7 +373,8 @@ fn serve_sequencer<R: Read, W: Write>(
     writer: &mut W,
 ) -> Result<(), NodeEnd> {
     let node = InMemory::new(Sequencer::new(alloc, epoch, last));
-    let mut sequencer = Passive::new(alloc, node, NodeId::Sequencer { epoch }, false);
+    let place = NodeId::Sequencer { epoch };
+    let mut sequencer: Passive<_, Apart> = Passive::new(alloc, node, place, false);
     serve(alloc, MAX_LINE, &mut sequencer, ahead, reader, writer)
 }
 

@@ -2,15 +2,18 @@
 ghost use Rattle.std.specs.Prelude.{◌≡◌, ◌<◌, true, Err, IfErr, IfOk, IfSome, OnOk};
 ghost use Rattle.fr_cli_json.specs.Calls.{no_calls};
 ghost use Rattle.fr_cli_node.specs.declared.fault.NodeEnd.{NodeEnd};
-ghost use Rattle.fr_cli_node.specs.Lines.{EndsBy, IfUndone, IsEnd, IsPutFault, UnlessEnded, crash_in};
+ghost use Rattle.fr_cli_node.specs.Lines.{EndsBy, IfUndone, IsAnswerFault, IsEnd, IsPutFault, UnlessEnded, crash_in};
 ghost use Rattle.fr_node_lines.specs.declared.fault.LineFault.{LineFault};
 ghost use Rattle.fr_node.specs.Answers.{IsAnswer};
 
 use crate::fault::NodeEnd;
 use crate::lines::{Found, Lines};
+use crate::waiting::{Sender, Waiting};
+use fr_ask::Last;
+use fr_audit_journal::Entry;
 use fr_base::{Memory, NodeId};
 use fr_cli_json::{CallCounts, CliFault, put_bytes};
-use fr_node::{Acting, Crash, NodeReply, NodeRequest, NodeTurnFault, answer};
+use fr_node::{Acting, Crash, Kind, NodeReply, NodeRequest, NodeTurnFault, answer, is_ahead, stand_from};
 use fr_node_lines::{BadLine, Envelope, Line, LineFault, read_line, write_error, write_reply};
 use std::alloc::Global;
 use std::io::{Read, Write};
@@ -18,9 +21,10 @@ use std::io::{Read, Write};
 /// The most bytes that a line may have: a batch at its limits fits.
 pub const MAX_LINE: usize = 268_435_456;
 
-/// Serves lines to the end of the input, each of at most so many bytes: reads one, answers it, and flushes the answer
-/// before it reads the next. A line that is not done is answered with the reason; one with a number that is further
-/// ahead than `ahead` allows is refused. A node that cannot go on says so in its answer, and serves no more.
+/// Serves lines to the end of the input, each of at most so many bytes: answers each in its turn, and flushes the answer
+/// before it waits for more. Turns that were read together, and may stand in one group, are taken as one, and answered by
+/// one write. A line that is not done is answered with the reason; one with a number that is further ahead than `ahead`
+/// allows is refused. A node that cannot go on says so in its answer, and serves no more.
 pub fn serve<T: Acting, R: Read, W: Write>(
     alloc: Global,
     most: usize,
@@ -58,7 +62,12 @@ pub fn serve_counted<T: Acting, R: Read, W: Write>(
     ensures done { OnOk result (calls.new.failed_writes ≡ 0) }
 {
     let mut lines = Lines::new(alloc);
+    let mut waiting = Waiting::new(alloc);
     for _line in 0..u64::MAX {
+        // Who waits for an answer may send nothing before it is there.
+        if !lines.has_whole() {
+            answer_waiting(alloc, calls, node, ahead, &mut waiting, writer)?;
+        }
         let found = match lines.next(alloc, reader, most) {
             Ok(found) => found,
             Err(fault) => return Err(unread(fault)),
@@ -68,15 +77,149 @@ pub fn serve_counted<T: Acting, R: Read, W: Write>(
             Found::TooLong => Line::bad(BadLine::TooLong),
             Found::Line(text) => read_line(alloc, node.place(), text.as_slice()),
         };
-        let Line { envelope, order } = line;
-        let done = do_line(alloc, node, ahead, order);
-        let crash = crash_of(&done);
-        put_answer(alloc, calls, node.place(), &envelope, done, writer)?;
-        if let Some(crash) = crash {
-            return Err(NodeEnd::Crashed(crash));
-        }
+        take_line(alloc, calls, node, ahead, line, &mut waiting, writer)?;
     }
     Ok(())
+}
+
+/// Puts a line behind those that wait, or answers these and then it.
+fn take_line<T: Acting, W: Write>(
+    alloc: Global,
+    calls: &mut CallCounts,
+    node: &mut T,
+    ahead: u64,
+    line: Line,
+    waiting: &mut Waiting,
+    writer: &mut W,
+) -> Result<(), NodeEnd>
+    requires works { T.works node.old ≡ true }
+    ensures node { T.node node.new ≡ T.node node.old }
+    ensures works { OnOk result (T.works node.new ≡ true) }
+    ensures fault { IfErr result (IsAnswerFault T.CanCrash calls.new) }
+    ensures done { OnOk result (calls.new ≡ calls.old) }
+{
+    let Line { envelope, order } = line;
+    let is_near = is_near(node, ahead, &order);
+    if !is_near || !waiting.may_take(node, &order) {
+        answer_waiting(alloc, calls, node, ahead, waiting, writer)?;
+    }
+    match order {
+        Ok(NodeRequest::Take { at, turn, is_whole }) if is_near => {
+            match waiting.put(Sender { envelope, is_whole }, at, turn) {
+                Ok(()) => Ok(()),
+                Err(_) => Err(NodeEnd::Crashed(Crash::Memory)),
+            }
+        }
+        order => answer_line(alloc, calls, node, ahead, &envelope, order, writer),
+    }
+}
+
+/// Whether a turn may wait for others by its numbers. One that is not too far ahead now is not either once those before it
+/// are taken, since a node's reach only grows; and a group is taken without looking again.
+fn is_near<T: Acting>(node: &T, ahead: u64, order: &Result<NodeRequest, BadLine>) -> bool
+    requires works { T.works node.now ≡ true }
+{
+    match order {
+        Ok(NodeRequest::Take { at, turn, .. }) => !is_ahead(ahead, &node.reach(), *at, turn),
+        _ => false,
+    }
+}
+
+/// Answers a line.
+fn answer_line<T: Acting, W: Write>(
+    alloc: Global,
+    calls: &mut CallCounts,
+    node: &mut T,
+    ahead: u64,
+    envelope: &Envelope,
+    order: Result<NodeRequest, BadLine>,
+    writer: &mut W,
+) -> Result<(), NodeEnd>
+    requires works { T.works node.old ≡ true }
+    ensures node { T.node node.new ≡ T.node node.old }
+    ensures works { OnOk result (T.works node.new ≡ true) }
+    ensures fault { IfErr result (IsAnswerFault T.CanCrash calls.new) }
+    ensures done { OnOk result (calls.new ≡ calls.old) }
+{
+    let done = do_line(alloc, node, ahead, order);
+    let crash = crash_of(&done);
+    put_answer(alloc, calls, node.place(), envelope, done, writer)?;
+    match crash {
+        Some(crash) => Err(NodeEnd::Crashed(crash)),
+        None => Ok(()),
+    }
+}
+
+/// Answers the lines that wait: their turns are taken as one group, or one after another if the node takes them apart.
+/// Then none waits.
+fn answer_waiting<T: Acting, W: Write>(
+    alloc: Global,
+    calls: &mut CallCounts,
+    node: &mut T,
+    ahead: u64,
+    waiting: &mut Waiting,
+    writer: &mut W,
+) -> Result<(), NodeEnd>
+    requires works { T.works node.old ≡ true }
+    ensures node { T.node node.new ≡ T.node node.old }
+    ensures works { OnOk result (T.works node.new ≡ true) }
+    ensures fault { IfErr result (IsAnswerFault T.CanCrash calls.new) }
+    ensures done { OnOk result (calls.new ≡ calls.old) }
+{
+    let (senders, turns) = waiting.take_all(alloc);
+    if turns.len() > 1 {
+        match node.act_all(alloc, turns.as_slice()) {
+            Ok(Some(taken)) => {
+                return answer_all(alloc, calls, node.place(), senders, taken, writer);
+            }
+            Ok(None) => {}
+            Err(NodeTurnFault::Refused(_)) => unreachable!(),
+            Err(NodeTurnFault::Crashed(why)) => {
+                if let Some(first) = senders.as_slice().first() {
+                    let done = Err(LineFault::Turn(NodeTurnFault::Crashed(why)));
+                    put_answer(alloc, calls, node.place(), &first.envelope, done, writer)?;
+                }
+                return Err(NodeEnd::Crashed(why));
+            }
+        }
+    }
+    for (sender, (at, turn)) in senders.into_iter().zip(turns) {
+        let Sender { envelope, is_whole } = sender;
+        let order = Ok(NodeRequest::Take { at, turn, is_whole });
+        answer_line(alloc, calls, node, ahead, &envelope, order, writer)?;
+    }
+    Ok(())
+}
+
+/// Answers the lines of a group that was taken, all by one write.
+fn answer_all<W: Write>(
+    alloc: Global,
+    calls: &mut CallCounts,
+    place: NodeId,
+    senders: Vec<Sender>,
+    taken: Vec<(Entry, Last)>,
+    writer: &mut W,
+) -> Result<(), NodeEnd>
+    ensures fault { IfErr result (IsPutFault calls.new) }
+    ensures done { OnOk result (calls.new ≡ calls.old) }
+{
+    let mut text = Vec::new(alloc);
+    for (sender, (entry, last)) in senders.into_iter().zip(taken) {
+        let Sender { envelope, is_whole } = sender;
+        let reply = NodeReply::Taken {
+            kind: Kind::Ask,
+            entry,
+            stand: stand_from(last, is_whole),
+            wants: None,
+        };
+        let Ok(its) = write_reply(alloc, place, &envelope, &reply) else {
+            return Err(NodeEnd::Crashed(Crash::Memory));
+        };
+        if text.extend_from_slice(its.as_slice()).is_err() {
+            return Err(NodeEnd::Crashed(Crash::Memory));
+        }
+    }
+    put_text(calls, writer, text.as_slice())
 }
 
 /// Why a reader gives no line.

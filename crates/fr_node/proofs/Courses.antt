@@ -16,7 +16,7 @@ last-from-with : (stamp : ℕ) (es : List Entry) (e : Entry) → last_from stamp
 last-from-with stamp [] e = refl
 last-from-with stamp (f ∷ es) e = last-from-with f.stamp es e
 
-last-with : (es : List Entry) (e : Entry) → last_stamp (es ++ e ∷ []) ≡ Some e.stamp
+pub last-with : (es : List Entry) (e : Entry) → last_stamp (es ++ e ∷ []) ≡ Some e.stamp
 last-with [] e = refl
 last-with (f ∷ es) e = ap Some (last-from-with f.stamp es e)
 

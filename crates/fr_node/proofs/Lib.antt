@@ -2,3 +2,4 @@ mod Served
 mod Asked
 mod Leads
 mod Courses
+mod Grouped

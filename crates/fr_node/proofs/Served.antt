@@ -10,7 +10,7 @@ use Rattle.fr_audit_journal.specs.Replays.{Steps, told_at, after_at, after_act, 
 use Rattle.fr_node.specs.declared.fault.NodeTurnFault.{NodeTurnFault}
 use Rattle.fr_node.specs.Passive.{IsServed, IsOnlyCrash}
 
-state-append : {S A : Type 0} (m : Steps S A) (s : S) (es : List Entry) (e : Entry)
+pub state-append : {S A : Type 0} (m : Steps S A) (s : S) (es : List Entry) (e : Entry)
     → state_after m s (es ++ e ∷ []) ≡ after_act m (state_after m s es) e.act
 state-append m s [] e = refl
 state-append m s (x ∷ es) e = state-append m (after_act m s x.act) es e
@@ -31,20 +31,26 @@ there-append n gone [] e h t = (t, record {})
 there-append n gone (x ∷ es) e h t = (h.0, there-append n (gone_after n gone x.act) es e h.1 t)
 
 -- an ask of the machine's own is entered, with what the machine tells
-served-asked : {S A : Type 0} (m : Steps S A) (place : NodeId) (first : S) (es : List Entry) (s : S) (stamp : ℕ) (from : NodeId) (a : A)
-    → IsServed m place first es s → m.unwrapped (m.wrapped a) ≡ Some a
-    → IsServed m place first (es ++ record { stamp = stamp; act = act.Asked from (m.wrapped a) (m.told s a) } ∷ []) (m.after s a)
-served-asked m place first es s stamp from a h own =
-    let e : Entry = record { stamp = stamp; act = act.Asked from (m.wrapped a) (m.told s a) } in
+pub served-one : {S A : Type 0} (m : Steps S A) (place : NodeId) (first : S) (es : List Entry) (s : S) (stamp : ℕ) (from : NodeId) (ask : Ask) (a : A)
+    → IsServed m place first es s → m.unwrapped ask ≡ Some a
+    → IsServed m place first (es ++ record { stamp = stamp; act = act.Asked from ask (m.told s a) } ∷ []) (m.after s a)
+served-one m place first es s stamp from ask a h own =
+    let e : Entry = record { stamp = stamp; act = act.Asked from ask (m.told s a) } in
     let b = state_after m first es in
-    let told : told_at m b (m.unwrapped (m.wrapped a)) ≡ Some (m.told s a) = ap (told_at m b) own ∙ ap (λ x. Some (m.told x a)) (sym h.state_is) in
-    let after : after_at m b (m.unwrapped (m.wrapped a)) ≡ m.after s a = ap (after_at m b) own ∙ ap (λ x. m.after x a) (sym h.state_is) in
+    let told : told_at m b (m.unwrapped ask) ≡ Some (m.told s a) = ap (told_at m b) own ∙ ap (λ x. Some (m.told x a)) (sym h.state_is) in
+    let after : after_at m b (m.unwrapped ask) ≡ m.after s a = ap (after_at m b) own ∙ ap (λ x. m.after x a) (sym h.state_is) in
     record {
       tells = tells-append m first es e h.tells told;
       there = there-append place false es e h.there h.stays;
       stays = gone-append place false es e ∙ h.stays;
       state_is = sym (state-append m first es e ∙ after);
     }
+
+-- so it is of an ask that is wrapped
+served-asked : {S A : Type 0} (m : Steps S A) (place : NodeId) (first : S) (es : List Entry) (s : S) (stamp : ℕ) (from : NodeId) (a : A)
+    → IsServed m place first es s → m.unwrapped (m.wrapped a) ≡ Some a
+    → IsServed m place first (es ++ record { stamp = stamp; act = act.Asked from (m.wrapped a) (m.told s a) } ∷ []) (m.after s a)
+served-asked m place first es s stamp from a h own = served-one m place first es s stamp from (m.wrapped a) a h own
 
 -- so it is where the node, its journal and what is entered are known by equations
 pub served-entered : {S A : Type 0} (m : Steps S A) (place now : NodeId) (first : S) (es longer : List Entry) (s t : S) (stamp : ℕ) (from : NodeId) (a served : A) (ask : Ask) (tell : Tell)

@@ -4,6 +4,7 @@ pub mod Courses
 pub mod Ahead
 pub mod Faults
 pub mod Turns
+pub mod Groups
 pub mod Passive
 pub mod Answers
 pub mod Leads

@@ -1,6 +1,7 @@
 //! Nodes that a process serves.
-ghost use Rattle.std.specs.Prelude.{◌≡◌, ◌++◌, true, IfOk, OnOk};
+ghost use Rattle.std.specs.Prelude.{◌≡◌, ◌++◌, true, None, Ok, IfOk, IfSome, OnOk};
 ghost use Rattle.fr_node.specs.Ahead.{reach_of};
+ghost use Rattle.fr_node.specs.Groups.{AreTaken};
 ghost use Rattle.fr_node.specs.Stands.{stand_of};
 ghost use Rattle.fr_node.specs.Turns.{IfCrashed, IfRefused, IsBack, IsTaken, Refuses, RefusesFor, UnlessCrashed};
 
@@ -57,6 +58,15 @@ pub trait Acting {
     /// The reason why it does not say which value a key had at a version, if there is one.
     ghost read_refusal: { Self → List ℕ → ℕ → Option TurnRefusal };
 
+    /// Its state, as others see it, once its entries are these.
+    ghost led: { Self → List Entry → Last };
+
+    /// Whether a turn may stand behind another one in a group.
+    ghost joins: { NodeTurn → NodeTurn → Bool };
+
+    /// Whether turns are taken one by one, and not as one group.
+    ghost TakesApart: { Self → List (ℕ × NodeTurn) → Type 0 };
+
     /// Why such a node may be unable to go on.
     ghost CanCrash: { Crash → Type 0 };
 
@@ -85,6 +95,29 @@ pub trait Acting {
         ensures left { IfRefused result (entries self.new ≡ entries self.old) }
         ensures stands { IfRefused result (last_of self.new ≡ last_of self.old) }
         ensures crashed { IfCrashed result CanCrash };
+
+    /// Whether a turn may stand behind another one in a group. Each turn of a group is told the same again once all of
+    /// them were taken: so a process may be killed when only some of them are answered.
+    fn may_join(&self, last: &NodeTurn, turn: &NodeTurn) -> bool
+        ensures { result ≡ joins last.now turn.now };
+
+    /// Takes turns as one group, each above the stamp that came with it. It answers what is entered of each, and where
+    /// the node stood then, all as if they had come one by one. `None`: it takes them apart alone, and nothing was done.
+    fn act_all(
+        &mut self,
+        alloc: Global,
+        turns: &[(Stamp, NodeTurn)],
+    ) -> Result<Option<Vec<(Entry, Last)>>, NodeTurnFault>
+        requires works { works self.old ≡ true }
+        ensures node { node self.new ≡ node self.old }
+        ensures taken { IfOk result (λ took. IfSome took (λ all. AreTaken (led self.old) (entries self.old) (entries self.new) turns.now all.items)) }
+        ensures stands { IfOk result (λ took. IfSome took (λ all. last_of self.new ≡ led self.old (entries self.new))) }
+        ensures apart { (result ≡ Ok None) → TakesApart self.old turns.now }
+        ensures left { (result ≡ Ok None) → entries self.new ≡ entries self.old }
+        ensures stays { (result ≡ Ok None) → last_of self.new ≡ last_of self.old }
+        ensures works { OnOk result (works self.new ≡ true) }
+        ensures crashed { IfCrashed result CanCrash }
+        ensures never_refused { IfRefused result ⊥ };
 
     /// Enters that its process was killed and started again over its files, above the stamp that the asker has seen.
     /// `hearing` is the hear that was under way, if one was. It answers the entries: what it took of that hear, if it

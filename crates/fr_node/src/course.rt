@@ -80,6 +80,18 @@ impl Course {
         Ok(())
     }
 
+    /// Makes room for so many entries more. A refusal changes nothing.
+    pub fn reserve_all(&mut self, count: usize) -> Result<(), Memory>
+        ensures room { OnOk result (count ≤ self.new.room) }
+        ensures node { self.new.node ≡ self.old.node }
+        ensures entries { self.new.entries ≡ self.old.entries }
+        ensures succeeds { count ≤ self.old.room → IsOk result }
+        ensures err { OnErr result (self.new ≡ self.old) }
+    {
+        self.entries.reserve(count)?;
+        Ok(())
+    }
+
     /// Enters an act for which there is room. It takes no memory.
     pub fn enter(&mut self, entry: &Entry)
         requires room { 1 ≤ self.old.room }

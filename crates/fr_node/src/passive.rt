@@ -10,7 +10,9 @@ use crate::acting::Acting;
 use crate::ahead::Reach;
 use crate::answering::Answering;
 use crate::course::Course;
+use crate::drafts::{drafts_of, enter_all, own_asks, room_for, with_lasts};
 use crate::fault::{NodeTurnFault, TurnRefusal};
+use crate::groups::{Grouping, Groups};
 use crate::stamps::stamp_above;
 use crate::turn::{Hearing, NodeTurn, Round};
 use crate::wants::Wants;
@@ -18,13 +20,13 @@ use fr_ask::{Last, Named};
 use fr_audit_journal::{Act, Entry, Housable};
 use fr_base::{Bytes, Machine, Memory, Node, NodeId, Stamp, Version};
 use std::alloc::Global;
-use std::marker::Model;
+use std::marker::{Model, PhantomData};
 use std::snapshot::Snapshot;
 
 /// A cell, a log or a sequencer, with its course. Contracts see the node, its name, the state in which its process
 /// found it, and what it did since.
 #[derive(Drop)]
-pub struct Passive<N: Node>
+pub struct Passive<N: Node, G: Groups<N>>
 where
     N::Plain: Answering,
 {
@@ -32,9 +34,10 @@ where
     course: Course,
     first: Snapshot<N::Plain>,
     has_files: bool,
+    groups: PhantomData<G>,
 }
 
-impl<N: Node> Model for Passive<N>
+impl<N: Node, G: Groups<N>> Model for Passive<N, G>
 where
     N::Plain: Answering,
 {
@@ -51,7 +54,7 @@ where
         × (p.has_files ≡ true → ends_by_crash p.course.node ≡ false) };
 }
 
-impl<N: Node> Passive<N>
+impl<N: Node, G: Groups<N>> Passive<N, G>
 where
     N::Plain: Answering,
     <N::Plain as Machine>::Ask: Drop,
@@ -72,6 +75,7 @@ where
             course: Course::new(alloc, id),
             first,
             has_files,
+            groups: PhantomData,
         }
     }
 
@@ -135,12 +139,16 @@ pub fn crash_at(stamp: Stamp) -> Entry
     }
 }
 
-impl<N: Node> Acting for Passive<N>
+impl<N: Node, G: Groups<N> + Grouping<N::Plain>> Acting for Passive<N, G>
 where
     N::Plain: Answering,
     <N::Plain as Machine>::Ask: Drop,
+    <N::Plain as Machine>::Tell: Drop,
 {
     ghost use Rattle.std.specs.Prelude.{[], not, None, Some};
+    ghost use Rattle.fr_audit_journal.specs.Housing.{last_number};
+    ghost use Rattle.fr_audit_journal.specs.Replays.{state_after, steps};
+    ghost use Rattle.fr_node.specs.Groups.{AreApart, drafts_of, joined};
     ghost use Rattle.fr_node.specs.declared.fault.TurnRefusal.TheVariants as refusal;
     ghost use Rattle.fr_node.specs.Passive.{IsCrash, back_refusal, lacks_room, passive_refusal};
 
@@ -163,6 +171,13 @@ where
     ghost value_at = { λ p key version. None };
 
     ghost read_refusal = { λ p key version. Some refusal.NotTaken };
+
+    ghost led = { λ p entries. N.Plain.last_of (state_after (steps N.Plain.wrapped N.Plain.unwrapped N.Plain.wrapped_tell N.Plain.told
+        N.Plain.after) p.first entries) };
+
+    ghost joins = { λ one other. joined G.joins one other };
+
+    ghost TakesApart = { λ p turns. AreApart G.owned (G.ServesApart p.node) (drafts_of (last_number p.entries) turns) };
 
     ghost CanCrash = { IsCrash N.CanMeet };
 
@@ -204,6 +219,42 @@ where
         };
         self.course.enter(&entry);
         Ok(entry)
+    }
+
+    fn may_join(&self, last: &NodeTurn, turn: &NodeTurn) -> bool {
+        match last {
+            NodeTurn::Ask { ask: last, .. } => match turn {
+                NodeTurn::Ask { ask, .. } => G::may_join(last, ask),
+                NodeTurn::Hear { .. } => false,
+                NodeTurn::Submit { .. } => false,
+                NodeTurn::Begin => false,
+            },
+            NodeTurn::Hear { .. } => false,
+            NodeTurn::Submit { .. } => false,
+            NodeTurn::Begin => false,
+        }
+    }
+
+    fn act_all(
+        &mut self,
+        alloc: Global,
+        turns: &[(Stamp, NodeTurn)],
+    ) -> Result<Option<Vec<(Entry, Last)>>, NodeTurnFault> {
+        let Some(drafts) = drafts_of(alloc, &self.course, turns)? else {
+            return Ok(None);
+        };
+        let Some(asks) = own_asks::<N::Plain, G>(alloc, drafts.as_slice())? else {
+            return Ok(None);
+        };
+        // What can fail comes first: once the asks are served, each of them has to be entered.
+        let first = self.node.plain().last(alloc)?;
+        let mut entries = room_for(alloc, drafts.len())?;
+        self.course.reserve_all(drafts.len())?;
+        let Some(tells) = G::serve_all(&mut self.node, alloc, asks)? else {
+            return Ok(None);
+        };
+        enter_all::<N::Plain>(&mut self.course, &mut entries, drafts, tells);
+        Ok(Some(with_lasts::<N::Plain, G>(alloc, first, entries)?))
     }
 
     fn back(

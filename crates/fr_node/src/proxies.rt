@@ -136,7 +136,7 @@ impl ProxyNode {
 
 impl Acting for ProxyNode {
     ghost use Rattle.fr_node.specs.declared.fault.TurnRefusal.TheVariants as refusal;
-    ghost use Rattle.std.specs.Prelude.{true, None, Some};
+    ghost use Rattle.std.specs.Prelude.{false, true, None, Some};
     ghost use Rattle.fr_proxy.specs.Proxy.{pending};
     ghost use Rattle.fr_run.specs.Last as last;
     ghost use Rattle.fr_node.specs.Nodes.{IsMemory, proxy_refusal};
@@ -161,6 +161,12 @@ impl Acting for ProxyNode {
 
     ghost read_refusal = { λ node key version. Some refusal.NotTaken };
 
+    ghost led = { λ p entries. last.last_of_proxy p.state };
+
+    ghost joins = { λ one other. false };
+
+    ghost TakesApart = { λ node turns. Unit {0} };
+
     ghost CanCrash = { IsMemory };
 
     const TELLS_WANTS: bool = true;
@@ -184,6 +190,18 @@ impl Acting for ProxyNode {
             NodeTurn::Ask { .. } => Err(NodeTurnFault::Refused(TurnRefusal::NotTaken)),
             NodeTurn::Begin => Err(NodeTurnFault::Refused(TurnRefusal::NotTaken)),
         }
+    }
+
+    fn may_join(&self, _last: &NodeTurn, _turn: &NodeTurn) -> bool {
+        false
+    }
+
+    fn act_all(
+        &mut self,
+        _alloc: Global,
+        _turns: &[(Stamp, NodeTurn)],
+    ) -> Result<Option<Vec<(Entry, Last)>>, NodeTurnFault> {
+        Ok(None)
     }
 
     fn back(

@@ -143,7 +143,7 @@ fn begun_at(stamp: Stamp, shape: Option<Shape>) -> Entry
 
 impl Acting for RecovererNode {
     ghost use Rattle.fr_node.specs.declared.fault.TurnRefusal.TheVariants as refusal;
-    ghost use Rattle.std.specs.Prelude.{true, None, Some, [], if◌then◌else◌};
+    ghost use Rattle.std.specs.Prelude.{false, true, None, Some, [], if◌then◌else◌};
     ghost use Rattle.fr_epoch.specs.Asks.{pending};
     ghost use Rattle.fr_run.specs.Last as last;
     ghost use Rattle.fr_node.specs.Nodes.{IsMemory, recoverer_refusal};
@@ -168,6 +168,12 @@ impl Acting for RecovererNode {
 
     ghost read_refusal = { λ node key version. Some refusal.NotTaken };
 
+    ghost led = { λ r entries. last.last_of_recoverer r.state.recoverer };
+
+    ghost joins = { λ one other. false };
+
+    ghost TakesApart = { λ node turns. Unit {0} };
+
     ghost CanCrash = { IsMemory };
 
     const TELLS_WANTS: bool = true;
@@ -191,6 +197,18 @@ impl Acting for RecovererNode {
             NodeTurn::Ask { .. } => Err(NodeTurnFault::Refused(TurnRefusal::NotTaken)),
             NodeTurn::Submit { .. } => Err(NodeTurnFault::Refused(TurnRefusal::NotTaken)),
         }
+    }
+
+    fn may_join(&self, _last: &NodeTurn, _turn: &NodeTurn) -> bool {
+        false
+    }
+
+    fn act_all(
+        &mut self,
+        _alloc: Global,
+        _turns: &[(Stamp, NodeTurn)],
+    ) -> Result<Option<Vec<(Entry, Last)>>, NodeTurnFault> {
+        Ok(None)
     }
 
     fn back(

@@ -261,7 +261,7 @@ fn begun_again(
 }
 
 impl<S: ShardStore> Acting for StorageNode<S> {
-    ghost use Rattle.std.specs.Prelude.{not};
+    ghost use Rattle.std.specs.Prelude.{false, not};
     ghost use Rattle.fr_run.specs.Last as last;
     ghost use Rattle.fr_storage.specs.Server.{storage_of};
     ghost use Rattle.fr_undo.specs.Undo.{value_undone};
@@ -288,6 +288,12 @@ impl<S: ShardStore> Acting for StorageNode<S> {
 
     ghost read_refusal = { λ s key version. storage_read_refusal s.shard (storage_of S.state s.storage) key version };
 
+    ghost led = { λ s entries. last.last_of_storage (storage_of S.state s.storage) };
+
+    ghost joins = { λ one other. false };
+
+    ghost TakesApart = { λ node turns. Unit {0} };
+
     ghost CanCrash = { IsStoreCrash };
 
     fn place(&self) -> NodeId {
@@ -310,6 +316,18 @@ impl<S: ShardStore> Acting for StorageNode<S> {
             NodeTurn::Submit { .. } => Err(NodeTurnFault::Refused(TurnRefusal::NotTaken)),
             NodeTurn::Begin => Err(NodeTurnFault::Refused(TurnRefusal::NotTaken)),
         }
+    }
+
+    fn may_join(&self, _last: &NodeTurn, _turn: &NodeTurn) -> bool {
+        false
+    }
+
+    fn act_all(
+        &mut self,
+        _alloc: Global,
+        _turns: &[(Stamp, NodeTurn)],
+    ) -> Result<Option<Vec<(Entry, Last)>>, NodeTurnFault> {
+        Ok(None)
     }
 
     fn back(
