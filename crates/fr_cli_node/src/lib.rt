@@ -2,16 +2,21 @@
 //! each by one line.
 #![tactic(auto)]
 
+mod cells;
+mod commands;
 mod fault;
 mod files;
 mod lines;
+mod logs;
 mod nodes;
 mod serving;
+mod storages;
 mod together;
 mod waiting;
 mod words;
 
+pub use commands::node_command;
 pub use fault::NodeEnd;
 pub use nodes::run_node;
 pub use serving::{MAX_LINE, serve};
-pub use words::{Home, LogWords, NodeStart, NodeWords, node_command, read_node_words};
+pub use words::{Home, LogWords, NodeStart, NodeWords, read_node_words};

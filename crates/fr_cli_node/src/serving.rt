@@ -13,7 +13,9 @@ use fr_ask::Last;
 use fr_audit_journal::Entry;
 use fr_base::{Memory, NodeId};
 use fr_cli_json::{CallCounts, CliFault, put_bytes};
-use fr_node::{Acting, Crash, Kind, NodeReply, NodeRequest, NodeTurnFault, answer, is_ahead, stand_from};
+use fr_node::{
+    Acting, Crash, Kind, NodeReply, NodeRequest, NodeTurnFault, answer, is_ahead, stand_from,
+};
 use fr_node_lines::{BadLine, Envelope, Line, LineFault, read_line, write_error, write_reply};
 use std::alloc::Global;
 use std::io::{Read, Write};
