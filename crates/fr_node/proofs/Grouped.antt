@@ -7,12 +7,11 @@ use Rattle.fr_base.specs.declared.place.NodeId.{NodeId}
 use Rattle.fr_ask.specs.declared.ask.Ask.{Ask}
 use Rattle.fr_ask.specs.declared.last.Last.{Last}
 use Rattle.fr_ask.specs.declared.tell.Tell.{Tell}
-use Rattle.fr_audit_journal.specs.declared.act.Act.{Act}
 use Rattle.fr_audit_journal.specs.declared.act.Act.TheVariants as act
 use Rattle.fr_audit_journal.specs.declared.act.Entry.{Entry}
 use Rattle.fr_audit_journal.specs.Housing.{last_number}
 use Rattle.fr_audit_journal.specs.Journal.{IsAbove}
-use Rattle.fr_audit_journal.specs.Replays.{Steps, steps, told_at, after_at, after_act, state_after}
+use Rattle.fr_audit_journal.specs.Replays.{Steps, steps, after_at, after_act, state_after}
 use Rattle.fr_node.specs.declared.drafts.Draft.{Draft}
 use Rattle.fr_node.specs.declared.turn.NodeTurn.{NodeTurn}
 use Rattle.fr_node.specs.declared.turn.NodeTurn.TheVariants as turn

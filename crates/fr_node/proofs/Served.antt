@@ -1,6 +1,6 @@
 -- What a node that answers asks did is one entry longer.
-use Rattle.std.proofs.Common.{refl, subst, sym, ap, ◌∙◌}
-use Rattle.std.specs.Prelude.{ℕ, Bool, false, true, ◌≡◌, ◌||◌, ◌++◌, List, [], ◌∷◌, Option, Some, Result, Ok, Err, IfOk, OnOk, OnErr}
+use Rattle.std.proofs.Common.{refl, sym, ap, ◌∙◌}
+use Rattle.std.specs.Prelude.{ℕ, Bool, false, true, ◌≡◌, ◌||◌, ◌++◌, List, [], ◌∷◌, Some, Result, Ok, Err, IfOk, OnOk, OnErr}
 use Rattle.fr_base.specs.declared.place.NodeId.{NodeId}
 use Rattle.fr_ask.specs.declared.ask.Ask.{Ask}
 use Rattle.fr_ask.specs.declared.tell.Tell.{Tell}

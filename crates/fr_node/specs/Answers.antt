@@ -1,5 +1,5 @@
 -- What is answered to what a process is asked of its node.
-use Rattle.std.specs.Prelude.{ℕ, ◌≡◌, ◌++◌, List, Option, None, Some, IfSome}
+use Rattle.std.specs.Prelude.{ℕ, ◌≡◌, ◌++◌, List, Option, None, IfSome}
 use Rattle.fr_base.specs.declared.place.NodeId.{NodeId}
 use Rattle.fr_ask.specs.declared.ask.Ask.{Ask}
 use Rattle.fr_ask.specs.declared.last.Last.{Last}

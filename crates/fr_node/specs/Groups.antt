@@ -1,7 +1,6 @@
 -- Several turns of a node as one group.
 use Rattle.std.specs.Prelude.{ℕ, ◌≡◌, ◌<◌, ◌==◌, ◌+◌, ◌-◌, ◌^◌, max, Bool, false, ⊤, List, [], ◌∷◌, ◌++◌, fold, Option, None, Some, if◌then◌else◌}
 use Rattle.std.specs.Option.{option_map, option_and_then}
-use Rattle.fr_base.specs.declared.place.NodeId.{NodeId}
 use Rattle.fr_ask.specs.declared.ask.Ask.{Ask}
 use Rattle.fr_ask.specs.declared.last.Last.{Last}
 use Rattle.fr_ask.specs.declared.tell.Tell.{Tell}

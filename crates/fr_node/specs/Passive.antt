@@ -1,5 +1,5 @@
 -- A node that answers asks, with its journal, as contracts see it.
-use Rattle.std.specs.Prelude.{ℕ, Bool, true, false, ◌≡◌, ◌⊎◌, ◌==◌, ◌+◌, ◌-◌, ◌^◌, max, List, [], ◌∷◌, Option, None, Some, if◌then◌else◌}
+use Rattle.std.specs.Prelude.{ℕ, Bool, true, false, ◌≡◌, ◌==◌, ◌-◌, ◌^◌, max, List, [], ◌∷◌, Option, None, Some, if◌then◌else◌}
 use Rattle.fr_base.specs.declared.node.NodeFault.{NodeFault}
 use Rattle.fr_base.specs.declared.node.NodeFault.TheVariants as node
 use Rattle.fr_base.specs.declared.place.NodeId.{NodeId}

@@ -1,5 +1,5 @@
 -- An entry more, of the first draft that is left and what its ask was told.
-use Rattle.std.proofs.Common.{◌≡◌, ◌++◌, [], ◌∷◌, length, map, List, sym, ap, ◌∙◌, subst, arith, append_assoc}
+use Rattle.std.proofs.Common.{◌++◌, [], ◌∷◌, length, map, List, sym, ap, ◌∙◌, subst, arith, append_assoc}
 use Rattle.std.specs.Vec.Iter.{into_iter_items}
 use Rattle.fr_audit_journal.specs.declared.act.Act.TheVariants as act
 use Rattle.fr_audit_journal.specs.declared.act.Entry.{Entry}

@@ -73,7 +73,7 @@ returns-clause-taken g c =
     let first : c.in_ok-first.first ≡ N.last_of s = c.in_ok-first.ensures ∙ ap N.last_of c.plain.ensures in
     subst (λ p. AreTaken (λ entries. N.last_of (state_after m p.first entries)) p.entries c.enter_all.new.course.entries c.args.turns.now all) c.self.view_is
     (taken-group N.wrapped N.unwrapped N.wrapped_tell M.told M.after owned g.met.G.Grouping.is_own N.last_of _ _ _ _ _ _ _ _ _ _ all c.self.invariant.0
-        drafted owns told c.enter_all.ensures.made (c.enter_all.ensures.entries ∙ rw c.reserve_all.ensures.entries refl) (λ grouped. c.in_ok-with_lasts.ensures s first grouped))
+    drafted owns told c.enter_all.ensures.made (c.enter_all.ensures.entries ∙ rw c.reserve_all.ensures.entries refl) (λ grouped. c.in_ok-with_lasts.ensures s first grouped))
 
 pub returns-clause-stands : goal.returns-clause-stands
 returns-clause-stands g c =
@@ -87,6 +87,6 @@ returns-clause-stands g c =
     let told : c.in-Some-3.tells.items ≡ told_all M.after M.told s asks = if-some _ _ c.in-Some-3.tells c.in_ok-tells.ensures.told c.in-Some-3.is in
     let after : g.N.Node.state c.serve_all.new.node ≡ after_all M.after s asks = if-some _ _ c.in-Some-3.tells c.in_ok-tells.ensures.after c.in-Some-3.is in
     let served =
-        served-group N.wrapped N.unwrapped N.wrapped_tell M.told M.after owned g.met.G.Grouping.is_own _ _ _ _ _ _ _ _ _ _ c.self.invariant.0
-        (c.enter_all.ensures.node ∙ c.reserve_all.ensures.node) owns told (c.enter_all.ensures.entries ∙ rw c.reserve_all.ensures.entries refl) after in
+    served-group N.wrapped N.unwrapped N.wrapped_tell M.told M.after owned g.met.G.Grouping.is_own _ _ _ _ _ _ _ _ _ _ c.self.invariant.0
+    (c.enter_all.ensures.node ∙ c.reserve_all.ensures.node) owns told (c.enter_all.ensures.entries ∙ rw c.reserve_all.ensures.entries refl) after in
     ap N.last_of served.state_is ∙ ap (λ p. N.last_of (state_after m p.first c.enter_all.new.course.entries)) c.self.view_is
