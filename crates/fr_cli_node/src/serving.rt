@@ -13,7 +13,9 @@ use fr_ask::Last;
 use fr_audit_journal::Entry;
 use fr_base::{Memory, NodeId};
 use fr_cli_json::{CallCounts, CliFault, put_bytes};
-use fr_node::{Acting, Crash, Kind, NodeReply, NodeRequest, NodeTurnFault, answer, is_ahead, stand_from};
+use fr_node::{
+    Acting, Crash, Kind, NodeReply, NodeRequest, NodeTurnFault, answer, is_ahead, stand_from,
+};
 use fr_node_lines::{BadLine, Envelope, Line, LineFault, read_line, write_error, write_reply};
 use std::alloc::Global;
 use std::io::{Read, Write};
@@ -203,23 +205,43 @@ fn answer_all<W: Write>(
     ensures fault { IfErr result (IsPutFault calls.new) }
     ensures done { OnOk result (calls.new ≡ calls.old) }
 {
+    let Ok(text) = texts_of(alloc, place, senders, taken) else {
+        return Err(NodeEnd::Crashed(Crash::Memory));
+    };
+    put_text(calls, writer, text.as_slice())
+}
+
+/// The text of the answers to a group that was taken: a line each, in their order.
+fn texts_of(
+    alloc: Global,
+    place: NodeId,
+    senders: Vec<Sender>,
+    taken: Vec<(Entry, Last)>,
+) -> Result<Vec<u8>, Memory> {
     let mut text = Vec::new(alloc);
     for (sender, (entry, last)) in senders.into_iter().zip(taken) {
-        let Sender { envelope, is_whole } = sender;
-        let reply = NodeReply::Taken {
-            kind: Kind::Ask,
-            entry,
-            stand: stand_from(last, is_whole),
-            wants: None,
-        };
-        let Ok(its) = write_reply(alloc, place, &envelope, &reply) else {
-            return Err(NodeEnd::Crashed(Crash::Memory));
-        };
-        if text.extend_from_slice(its.as_slice()).is_err() {
-            return Err(NodeEnd::Crashed(Crash::Memory));
-        }
+        let its = text_of_one(alloc, place, sender, entry, last)?;
+        text.extend_from_slice(its.as_slice())?;
     }
-    put_text(calls, writer, text.as_slice())
+    Ok(text)
+}
+
+/// The text of the answer to one of them.
+fn text_of_one(
+    alloc: Global,
+    place: NodeId,
+    sender: Sender,
+    entry: Entry,
+    last: Last,
+) -> Result<Vec<u8>, Memory> {
+    let Sender { envelope, is_whole } = sender;
+    let reply = NodeReply::Taken {
+        kind: Kind::Ask,
+        entry,
+        stand: stand_from(last, is_whole),
+        wants: None,
+    };
+    write_reply(alloc, place, &envelope, &reply)
 }
 
 /// Why a reader gives no line.
