@@ -11,10 +11,11 @@ use crate::lines::{Found, Lines};
 use crate::waiting::{Sender, Waiting};
 use fr_ask::Last;
 use fr_audit_journal::Entry;
-use fr_base::{Memory, NodeId};
+use fr_base::{Memory, NodeId, Stamp};
 use fr_cli_json::{CallCounts, CliFault, put_bytes};
 use fr_node::{
-    Acting, Crash, Kind, NodeReply, NodeRequest, NodeTurnFault, answer, is_ahead, stand_from,
+    Acting, Crash, Kind, NodeReply, NodeRequest, NodeTurn, NodeTurnFault, answer, is_ahead,
+    stand_from,
 };
 use fr_node_lines::{BadLine, Envelope, Line, LineFault, read_line, write_error, write_reply};
 use std::alloc::Global;
@@ -84,7 +85,7 @@ pub fn serve_counted<T: Acting, R: Read, W: Write>(
     Ok(())
 }
 
-/// Puts a line behind those that wait, or answers these and then it.
+/// Puts a line that is a turn behind those that wait, or answers these and then it.
 fn take_line<T: Acting, W: Write>(
     alloc: Global,
     calls: &mut CallCounts,
@@ -101,29 +102,60 @@ fn take_line<T: Acting, W: Write>(
     ensures done { OnOk result (calls.new ≡ calls.old) }
 {
     let Line { envelope, order } = line;
-    let is_near = is_near(node, ahead, &order);
-    if !is_near || !waiting.may_take(node, &order) {
-        answer_waiting(alloc, calls, node, ahead, waiting, writer)?;
-    }
     match order {
-        Ok(NodeRequest::Take { at, turn, is_whole }) if is_near => {
-            match waiting.put(Sender { envelope, is_whole }, at, turn) {
-                Ok(()) => Ok(()),
-                Err(_) => Err(NodeEnd::Crashed(Crash::Memory)),
-            }
+        Ok(NodeRequest::Take { at, turn, is_whole }) => {
+            let sender = Sender { envelope, is_whole };
+            take_turn(
+                alloc,
+                calls,
+                node,
+                ahead,
+                sender,
+                (at, turn),
+                waiting,
+                writer,
+            )
         }
-        order => answer_line(alloc, calls, node, ahead, &envelope, order, writer),
+        order => {
+            answer_waiting(alloc, calls, node, ahead, waiting, writer)?;
+            answer_line(alloc, calls, node, ahead, &envelope, order, writer)
+        }
     }
 }
 
-/// Whether a turn may wait for others by its numbers. One that is not too far ahead now is not either once those before it
-/// are taken, since a node's reach only grows; and a group is taken without looking again.
-fn is_near<T: Acting>(node: &T, ahead: u64, order: &Result<NodeRequest, BadLine>) -> bool
-    requires works { T.works node.now ≡ true }
+/// Puts a turn, above a stamp, behind those that wait, if it may join them. Otherwise these are answered first. It waits
+/// only if its numbers are not too far ahead: then they are not either once those before it are taken, since a node's
+/// reach only grows; and a group is taken without looking again.
+fn take_turn<T: Acting, W: Write>(
+    alloc: Global,
+    calls: &mut CallCounts,
+    node: &mut T,
+    ahead: u64,
+    sender: Sender,
+    asked: (Stamp, NodeTurn),
+    waiting: &mut Waiting,
+    writer: &mut W,
+) -> Result<(), NodeEnd>
+    requires works { T.works node.old ≡ true }
+    ensures node { T.node node.new ≡ T.node node.old }
+    ensures works { OnOk result (T.works node.new ≡ true) }
+    ensures fault { IfErr result (IsAnswerFault T.CanCrash calls.new) }
+    ensures done { OnOk result (calls.new ≡ calls.old) }
 {
-    match order {
-        Ok(NodeRequest::Take { at, turn, .. }) => !is_ahead(ahead, &node.reach(), *at, turn),
-        _ => false,
+    let (at, turn) = asked;
+    let is_near = !is_ahead(ahead, &node.reach(), at, &turn);
+    if !is_near || !waiting.may_take(node, &turn) {
+        answer_waiting(alloc, calls, node, ahead, waiting, writer)?;
+    }
+    if is_near {
+        match waiting.put(sender, at, turn) {
+            Ok(()) => Ok(()),
+            Err(_) => Err(NodeEnd::Crashed(Crash::Memory)),
+        }
+    } else {
+        let Sender { envelope, is_whole } = sender;
+        let order = Ok(NodeRequest::Take { at, turn, is_whole });
+        answer_line(alloc, calls, node, ahead, &envelope, order, writer)
     }
 }
 
@@ -205,7 +237,7 @@ fn answer_all<W: Write>(
     ensures fault { IfErr result (IsPutFault calls.new) }
     ensures done { OnOk result (calls.new ≡ calls.old) }
 {
-    let Ok(text) = texts_of(alloc, place, senders, taken) else {
+    let Ok(text) = texts_of(alloc, &place, senders, taken) else {
         return Err(NodeEnd::Crashed(Crash::Memory));
     };
     put_text(calls, writer, text.as_slice())
@@ -214,7 +246,7 @@ fn answer_all<W: Write>(
 /// The text of the answers to a group that was taken: a line each, in their order.
 fn texts_of(
     alloc: Global,
-    place: NodeId,
+    place: &NodeId,
     senders: Vec<Sender>,
     taken: Vec<(Entry, Last)>,
 ) -> Result<Vec<u8>, Memory> {
@@ -229,7 +261,7 @@ fn texts_of(
 /// The text of the answer to one of them.
 fn text_of_one(
     alloc: Global,
-    place: NodeId,
+    place: &NodeId,
     sender: Sender,
     entry: Entry,
     last: Last,
@@ -241,7 +273,7 @@ fn text_of_one(
         stand: stand_from(last, is_whole),
         wants: None,
     };
-    write_reply(alloc, place, &envelope, &reply)
+    write_reply(alloc, *place, &envelope, &reply)
 }
 
 /// Why a reader gives no line.
