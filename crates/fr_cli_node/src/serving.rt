@@ -8,14 +8,13 @@ ghost use Rattle.fr_node.specs.Answers.{IsAnswer};
 
 use crate::fault::NodeEnd;
 use crate::lines::{Found, Lines};
-use crate::waiting::{Sender, Waiting};
+use crate::waiting::{Asked, Sender, Waiting};
 use fr_ask::Last;
 use fr_audit_journal::Entry;
-use fr_base::{Memory, NodeId, Stamp};
+use fr_base::{Memory, NodeId};
 use fr_cli_json::{CallCounts, CliFault, put_bytes};
 use fr_node::{
-    Acting, Crash, Kind, NodeReply, NodeRequest, NodeTurn, NodeTurnFault, answer, is_ahead,
-    stand_from,
+    Acting, Crash, Kind, NodeReply, NodeRequest, NodeTurnFault, answer, is_ahead, stand_from,
 };
 use fr_node_lines::{BadLine, Envelope, Line, LineFault, read_line, write_error, write_reply};
 use std::alloc::Global;
@@ -102,24 +101,35 @@ fn take_line<T: Acting, W: Write>(
     ensures done { OnOk result (calls.new ≡ calls.old) }
 {
     let Line { envelope, order } = line;
-    match order {
-        Ok(NodeRequest::Take { at, turn, is_whole }) => {
-            let sender = Sender { envelope, is_whole };
-            take_turn(
-                alloc,
-                calls,
-                node,
-                ahead,
-                sender,
-                (at, turn),
-                waiting,
-                writer,
-            )
-        }
-        order => {
+    match asked_in(order) {
+        Ok(asked) => take_turn(alloc, calls, node, ahead, envelope, asked, waiting, writer),
+        Err(order) => {
             answer_waiting(alloc, calls, node, ahead, waiting, writer)?;
             answer_line(alloc, calls, node, ahead, &envelope, order, writer)
         }
+    }
+}
+
+/// The turn that an order asks for; the order again if it asks for none.
+fn asked_in(order: Result<NodeRequest, BadLine>) -> Result<Asked, Result<NodeRequest, BadLine>> {
+    match order {
+        Ok(NodeRequest::Take { at, turn, is_whole }) => Ok(Asked { at, turn, is_whole }),
+        Ok(NodeRequest::Init { is_whole }) => Err(Ok(NodeRequest::Init { is_whole })),
+        Ok(NodeRequest::Last) => Err(Ok(NodeRequest::Last)),
+        Ok(NodeRequest::Wants { turn, newest }) => Err(Ok(NodeRequest::Wants { turn, newest })),
+        Ok(NodeRequest::Read { key, version }) => Err(Ok(NodeRequest::Read { key, version })),
+        Ok(
+            NodeRequest::Back {
+                at,
+                hearing,
+                is_whole,
+            },
+        ) => Err(Ok(NodeRequest::Back {
+            at,
+            hearing,
+            is_whole,
+        })),
+        Err(bad) => Err(Err(bad)),
     }
 }
 
@@ -131,8 +141,8 @@ fn take_turn<T: Acting, W: Write>(
     calls: &mut CallCounts,
     node: &mut T,
     ahead: u64,
-    sender: Sender,
-    asked: (Stamp, NodeTurn),
+    envelope: Envelope,
+    asked: Asked,
     waiting: &mut Waiting,
     writer: &mut W,
 ) -> Result<(), NodeEnd>
@@ -142,18 +152,17 @@ fn take_turn<T: Acting, W: Write>(
     ensures fault { IfErr result (IsAnswerFault T.CanCrash calls.new) }
     ensures done { OnOk result (calls.new ≡ calls.old) }
 {
-    let (at, turn) = asked;
+    let Asked { at, turn, is_whole } = asked;
     let is_near = !is_ahead(ahead, &node.reach(), at, &turn);
     if !is_near || !waiting.may_take(node, &turn) {
         answer_waiting(alloc, calls, node, ahead, waiting, writer)?;
     }
     if is_near {
-        match waiting.put(sender, at, turn) {
+        match waiting.put(Sender { envelope, is_whole }, at, turn) {
             Ok(()) => Ok(()),
             Err(_) => Err(NodeEnd::Crashed(Crash::Memory)),
         }
     } else {
-        let Sender { envelope, is_whole } = sender;
         let order = Ok(NodeRequest::Take { at, turn, is_whole });
         answer_line(alloc, calls, node, ahead, &envelope, order, writer)
     }

@@ -7,6 +7,14 @@ use std::alloc::Global;
 /// So many turns are taken as one group at most.
 const TOGETHER: usize = 64;
 
+/// A turn, the stamp that came with it, and whether its answer is to have the whole state.
+#[derive(Drop)]
+pub(crate) struct Asked {
+    pub at: Stamp,
+    pub turn: NodeTurn,
+    pub is_whole: bool,
+}
+
 /// Who waits for the answer to a turn, and whether it wants the whole state.
 #[derive(Drop)]
 pub(crate) struct Sender {
