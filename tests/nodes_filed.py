@@ -42,6 +42,18 @@ class Files:
         ran = subprocess.run(self.words(kind, folder), input=text, capture_output=True, timeout=PATIENCE, **how)
         return [json.loads(it)["body"] for it in ran.stdout.splitlines()], ran.returncode, ran.stderr.decode().strip()
 
+    def each(self, kind, folder, given):
+        """What a process answers to bodies of lines of which each waits for the answer before it, and its status."""
+        pipes = {"stdin": subprocess.PIPE, "stdout": subprocess.PIPE}
+        found = []
+        with subprocess.Popen(self.words(kind, folder), **pipes) as child:
+            for at, body in enumerate(given):
+                child.stdin.write(line("log 513 0", at, body) + b"\n")
+                child.stdin.flush()
+                found.append(json.loads(child.stdout.readline())["body"])
+            child.stdin.close()
+        return found, child.returncode
+
     def ends(self, kind, folder, status, text, title):
         found = self.run(kind, folder)
         self.checks.check(found == ([], status, text), title, kind[0], "ended with", found, "and not", status, text)
@@ -143,10 +155,11 @@ def failed(checks, command):
         os.mkdir(f"{room}/files")
         big = [{"set": {"key": "61", "value": "00" * 3000}}]
         push = lines.asked(9, lines.proxy(513), lines.push(11, 13, 11, [[0, big]]), 10, {}, {})
-        bodies = [body for body, _ in (lines.LOGS[2], lines.LOGS[4], push)]
+        # (a line between the mark and the push, which would otherwise be one group)
+        bodies = [lines.LOGS[2][0], lines.LOGS[4][0], {"type": "last"}, push[0]]
         found, status, text = files.run(LOG, "files", [*bodies, INIT], preexec_fn=limited)
         types = [(it["type"], it.get("code"), it.get("text")) for it in found]
-        wanted = [("ask_ok", None, None), ("ask_ok", None, None), ("error", 13, FAILED)]
+        wanted = [("ask_ok", None, None), ("ask_ok", None, None), ("last_ok", None, None), ("error", 13, FAILED)]
         checks.check((types, status, text) == (wanted, 3, FAILED), "a write that is refused:", types, status, text)
         found, status, text = files.run(LOG, "files", [INIT, {"type": "back", "at": 9}, lines.LOGS[5][0]])
         stands = [it.get("last") for it in found]
@@ -188,6 +201,25 @@ def full(checks, command):
             types = [(it["type"], it.get("text")) for it in found]
             is_so = (types, status, text) == ([wanted], 0, "")
             checks.check(is_so, "a lock of a log that is full:", words, types, status, text)
+
+
+def together(checks, command):
+    """Lines that a log over its file reads at once, which it takes as groups: it answers as if they had come one by
+    one, and its file has the same bytes."""
+    by, pop = lines.proxy(513), {"log": {"pop": {"epoch": 513, "tag": 0, "through": 11}}}
+    asks = [lines.push(at, at + 1, 11, [[0, lines.BATCH]]) for at in range(11, 81)]
+    asks += [lines.PEEK, lines.push(90, 91, 11), lines.push(81, 82, 81), lines.push(20, 21, 11, [[0, lines.BATCH]])]
+    asks += [lines.push(82, 83, 81), lines.PEEK, lines.PEEK, pop, lines.push(83, 84, 81), lines.PEEK]
+    given = [lines.LOGS[2][0], lines.LOGS[4][0]]
+    given += [{"type": "ask", "at": at % 7, "from": by, "ask": its} for at, its in enumerate(asks)]
+    with tempfile.TemporaryDirectory() as room:
+        files = Files(checks, command, room)
+        for folder in ("once", "each"):
+            os.mkdir(f"{room}/{folder}")
+        once, each = files.run(LOG, "once", given), files.each(LOG, "each", given)
+        checks.check(once == (*each, "") and each[1] == 0, "at once a log answers", once, "and one by one", each)
+        is_so = content(f"{room}/once") == content(f"{room}/each")
+        checks.check(is_so, "given lines at once a log has another file than given them one by one")
 
 
 def lines_that_fail(checks, command):

@@ -8,7 +8,7 @@ ghost use Rattle.fr_node.specs.Answers.{IsAnswer};
 
 use crate::fault::NodeEnd;
 use crate::lines::{Found, Lines};
-use crate::waiting::{Sender, Waiting};
+use crate::waiting::{Asked, Sender, Waiting};
 use fr_ask::Last;
 use fr_audit_journal::Entry;
 use fr_base::{Memory, NodeId};
@@ -84,7 +84,7 @@ pub fn serve_counted<T: Acting, R: Read, W: Write>(
     Ok(())
 }
 
-/// Puts a line behind those that wait, or answers these and then it.
+/// Puts a line that is a turn behind those that wait, or answers these and then it.
 fn take_line<T: Acting, W: Write>(
     alloc: Global,
     calls: &mut CallCounts,
@@ -101,29 +101,70 @@ fn take_line<T: Acting, W: Write>(
     ensures done { OnOk result (calls.new ≡ calls.old) }
 {
     let Line { envelope, order } = line;
-    let is_near = is_near(node, ahead, &order);
-    if !is_near || !waiting.may_take(node, &order) {
-        answer_waiting(alloc, calls, node, ahead, waiting, writer)?;
-    }
-    match order {
-        Ok(NodeRequest::Take { at, turn, is_whole }) if is_near => {
-            match waiting.put(Sender { envelope, is_whole }, at, turn) {
-                Ok(()) => Ok(()),
-                Err(_) => Err(NodeEnd::Crashed(Crash::Memory)),
-            }
+    match asked_in(order) {
+        Ok(asked) => take_turn(alloc, calls, node, ahead, envelope, asked, waiting, writer),
+        Err(order) => {
+            answer_waiting(alloc, calls, node, ahead, waiting, writer)?;
+            answer_line(alloc, calls, node, ahead, &envelope, order, writer)
         }
-        order => answer_line(alloc, calls, node, ahead, &envelope, order, writer),
     }
 }
 
-/// Whether a turn may wait for others by its numbers. One that is not too far ahead now is not either once those before it
-/// are taken, since a node's reach only grows; and a group is taken without looking again.
-fn is_near<T: Acting>(node: &T, ahead: u64, order: &Result<NodeRequest, BadLine>) -> bool
-    requires works { T.works node.now ≡ true }
-{
+/// The turn that an order asks for; the order again if it asks for none.
+fn asked_in(order: Result<NodeRequest, BadLine>) -> Result<Asked, Result<NodeRequest, BadLine>> {
     match order {
-        Ok(NodeRequest::Take { at, turn, .. }) => !is_ahead(ahead, &node.reach(), *at, turn),
-        _ => false,
+        Ok(NodeRequest::Take { at, turn, is_whole }) => Ok(Asked { at, turn, is_whole }),
+        Ok(NodeRequest::Init { is_whole }) => Err(Ok(NodeRequest::Init { is_whole })),
+        Ok(NodeRequest::Last) => Err(Ok(NodeRequest::Last)),
+        Ok(NodeRequest::Wants { turn, newest }) => Err(Ok(NodeRequest::Wants { turn, newest })),
+        Ok(NodeRequest::Read { key, version }) => Err(Ok(NodeRequest::Read { key, version })),
+        Ok(
+            NodeRequest::Back {
+                at,
+                hearing,
+                is_whole,
+            },
+        ) => Err(Ok(NodeRequest::Back {
+            at,
+            hearing,
+            is_whole,
+        })),
+        Err(bad) => Err(Err(bad)),
+    }
+}
+
+/// Puts a turn, above a stamp, behind those that wait, if it may join them. Otherwise these are answered first. It waits
+/// only if its numbers are not too far ahead: then they are not either once those before it are taken, since a node's
+/// reach only grows; and a group is taken without looking again.
+fn take_turn<T: Acting, W: Write>(
+    alloc: Global,
+    calls: &mut CallCounts,
+    node: &mut T,
+    ahead: u64,
+    envelope: Envelope,
+    asked: Asked,
+    waiting: &mut Waiting,
+    writer: &mut W,
+) -> Result<(), NodeEnd>
+    requires works { T.works node.old ≡ true }
+    ensures node { T.node node.new ≡ T.node node.old }
+    ensures works { OnOk result (T.works node.new ≡ true) }
+    ensures fault { IfErr result (IsAnswerFault T.CanCrash calls.new) }
+    ensures done { OnOk result (calls.new ≡ calls.old) }
+{
+    let Asked { at, turn, is_whole } = asked;
+    let is_near = !is_ahead(ahead, &node.reach(), at, &turn);
+    if !is_near || !waiting.may_take(node, &turn) {
+        answer_waiting(alloc, calls, node, ahead, waiting, writer)?;
+    }
+    if is_near {
+        match waiting.put(Sender { envelope, is_whole }, at, turn) {
+            Ok(()) => Ok(()),
+            Err(_) => Err(NodeEnd::Crashed(Crash::Memory)),
+        }
+    } else {
+        let order = Ok(NodeRequest::Take { at, turn, is_whole });
+        answer_line(alloc, calls, node, ahead, &envelope, order, writer)
     }
 }
 
@@ -205,23 +246,43 @@ fn answer_all<W: Write>(
     ensures fault { IfErr result (IsPutFault calls.new) }
     ensures done { OnOk result (calls.new ≡ calls.old) }
 {
+    let Ok(text) = texts_of(alloc, &place, senders, taken) else {
+        return Err(NodeEnd::Crashed(Crash::Memory));
+    };
+    put_text(calls, writer, text.as_slice())
+}
+
+/// The text of the answers to a group that was taken: a line each, in their order.
+fn texts_of(
+    alloc: Global,
+    place: &NodeId,
+    senders: Vec<Sender>,
+    taken: Vec<(Entry, Last)>,
+) -> Result<Vec<u8>, Memory> {
     let mut text = Vec::new(alloc);
     for (sender, (entry, last)) in senders.into_iter().zip(taken) {
-        let Sender { envelope, is_whole } = sender;
-        let reply = NodeReply::Taken {
-            kind: Kind::Ask,
-            entry,
-            stand: stand_from(last, is_whole),
-            wants: None,
-        };
-        let Ok(its) = write_reply(alloc, place, &envelope, &reply) else {
-            return Err(NodeEnd::Crashed(Crash::Memory));
-        };
-        if text.extend_from_slice(its.as_slice()).is_err() {
-            return Err(NodeEnd::Crashed(Crash::Memory));
-        }
+        let its = text_of_one(alloc, place, sender, entry, last)?;
+        text.extend_from_slice(its.as_slice())?;
     }
-    put_text(calls, writer, text.as_slice())
+    Ok(text)
+}
+
+/// The text of the answer to one of them.
+fn text_of_one(
+    alloc: Global,
+    place: &NodeId,
+    sender: Sender,
+    entry: Entry,
+    last: Last,
+) -> Result<Vec<u8>, Memory> {
+    let Sender { envelope, is_whole } = sender;
+    let reply = NodeReply::Taken {
+        kind: Kind::Ask,
+        entry,
+        stand: stand_from(last, is_whole),
+        wants: None,
+    };
+    write_reply(alloc, *place, &envelope, &reply)
 }
 
 /// Why a reader gives no line.

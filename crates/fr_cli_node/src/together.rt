@@ -1,7 +1,15 @@
 //! Asks of a log over its file, as one group.
-ghost use Rattle.std.specs.Prelude.{◌≡◌, IfOk};
+ghost use Rattle.std.specs.Prelude.{◌≡◌, ◌≢◌, ◌⊎◌, false, None, Ok, Err, IfErr, IfOk, IfSome, OnErr, IsTrue};
+ghost use Rattle.fr_base.specs.Faults.{met_device};
 ghost use Rattle.fr_cli_node.specs.Together.{IsGroupedPush, came_to, follows, grouped, is_held, is_read, joins_log, last_behind_log, raised};
 ghost use Rattle.fr_log.specs.Push.{IsPush};
+ghost use Rattle.fr_log.specs.Step.{after_ask, answer_of};
+ghost use Rattle.fr_node.specs.Groups.{after_all, told_all};
+ghost use Rattle.fr_record.specs.Moments.{Throughout};
+ghost use Rattle.fr_record_log.specs.Law.{written_all};
+ghost use Rattle.fr_record_log.specs.LogFile.{fresh_of, replay_log};
+ghost use Rattle.fr_record_node.specs.Node.{HasNoRoom, is_trouble};
+ghost use Rattle.fr_record_node.specs.Replay.{Opens};
 
 use fr_ask::{Ask, Last, Tell};
 use fr_base::{Memory, NodeFault, Version};
@@ -191,6 +199,7 @@ impl Grouping<Log> for Together {
     }
 }
 
+// The trait's clauses are said again, of a log over its file.
 impl<D: Device> Groups<LogNode<D>> for Together {
     ghost use Rattle.fr_record_log.specs.Law.{written_all};
     ghost use Rattle.fr_record_node.specs.Node.{HasNoRoom};
@@ -201,13 +210,29 @@ impl<D: Device> Groups<LogNode<D>> for Together {
         node: &mut LogNode<D>,
         alloc: Global,
         asks: Vec<LogAsk>,
-    ) -> Result<Option<Vec<LogTell>>, NodeFault> {
+    ) -> Result<Option<Vec<LogTell>>, NodeFault>
+        requires works { node.old.is_failed ≡ false }
+        ensures told { IfOk result (λ served. IfSome served (λ tells. tells.items ≡ told_all after_ask answer_of node.old.machine asks.items)) }
+        ensures after { IfOk result (λ served. IfSome served (λ tells. node.new.machine ≡ after_all after_ask node.old.machine asks.items)) }
+        ensures apart { (result ≡ Ok None) → HasNoRoom (D.capacity_of node.old.device) node.old.records (written_all node.old.machine asks.items) }
+        ensures still { (result ≡ Ok None) → node.new.machine ≡ node.old.machine }
+        ensures err { OnErr result (node.new.machine ≡ node.old.machine) }
+        ensures fails { node.new.is_failed ≡ met_device result }
+        ensures never_full { result ≢ Err NodeFault.Full }
+        ensures never_failed { result ≢ Err NodeFault.Failed }
+        ensures trouble { IfErr result (λ fault. IsTrue (is_trouble fault)) }
+        ensures any_moment { (node.new ≡ node.old)
+            ⊎ Throughout D.Led D.disk (Opens replay_log (fresh_of node.old.machine) (λ x. (x ≡ node.old.machine)
+            ⊎ (x ≡ after_all after_ask node.old.machine asks.items))) node.old.device node.new.device }
+        ensures kept { IfOk result (λ served. IfSome served (λ tells. Throughout D.Led D.disk (Opens replay_log (fresh_of node.new.machine) (λ x. x
+            ≡ node.new.machine)) node.new.device node.new.device)) }
+    {
         match node.serve_all(alloc, asks) {
             Ok(tells) => Ok(Some(tells)),
             // Apart, as many are taken as there is room for.
             Err(NodeFault::Full) => Ok(None),
             Err(NodeFault::Device) => Err(NodeFault::Device),
-            Err(NodeFault::Failed) => Err(NodeFault::Failed),
+            Err(NodeFault::Failed) => unreachable!(),
             Err(NodeFault::Memory) => Err(NodeFault::Memory),
             Err(NodeFault::Broken) => Err(NodeFault::Broken),
         }

@@ -1,11 +1,19 @@
 //! Turns that wait to be taken.
 use fr_base::{Memory, Stamp};
-use fr_node::{Acting, NodeRequest, NodeTurn};
-use fr_node_lines::{BadLine, Envelope};
+use fr_node::{Acting, NodeTurn};
+use fr_node_lines::Envelope;
 use std::alloc::Global;
 
 /// So many turns are taken as one group at most.
 const TOGETHER: usize = 64;
+
+/// A turn, the stamp that came with it, and whether its answer is to have the whole state.
+#[derive(Drop)]
+pub(crate) struct Asked {
+    pub at: Stamp,
+    pub turn: NodeTurn,
+    pub is_whole: bool,
+}
 
 /// Who waits for the answer to a turn, and whether it wants the whole state.
 #[derive(Drop)]
@@ -30,20 +38,8 @@ impl Waiting {
         }
     }
 
-    /// Whether an order may wait behind those that do: a turn that joins the last of them, or the first one.
-    pub(crate) fn may_take<T: Acting>(
-        &self,
-        node: &T,
-        order: &Result<NodeRequest, BadLine>,
-    ) -> bool {
-        match order {
-            Ok(NodeRequest::Take { turn, .. }) => self.may_join(node, turn),
-            Ok(_) => false,
-            Err(_) => false,
-        }
-    }
-
-    fn may_join<T: Acting>(&self, node: &T, turn: &NodeTurn) -> bool {
+    /// Whether a turn may wait behind those that do: it joins the last of them, or is the first one.
+    pub(crate) fn may_take<T: Acting>(&self, node: &T, turn: &NodeTurn) -> bool {
         match self.turns.as_slice().last() {
             // An answer to a group says nothing of what the node asks.
             Some((_, last)) => {

@@ -1,6 +1,6 @@
 -- A log's state behind an ask follows from what that was told.
-use Rattle.fr_cli_node.proofs.Together.{last-if}
-use Rattle.fr_cli_node.proofs.together.TogetherGrouping.last_after.Goals as goal
+use Rattle.fr_cli_node.proofs.Behind.{last-if}
+use Rattle.fr_cli_node.proofs.together.TogetherGroupingLog.last_after.Goals as goal
 
 pub returns-in-Log-tell : goal.returns-in-Log-tell
 returns-in-Log-tell c =
