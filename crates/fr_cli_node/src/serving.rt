@@ -113,23 +113,19 @@ fn take_line<T: Acting, W: Write>(
 /// The turn that an order asks for; the order again if it asks for none.
 fn asked_in(order: Result<NodeRequest, BadLine>) -> Result<Asked, Result<NodeRequest, BadLine>> {
     match order {
-        Ok(NodeRequest::Take { at, turn, is_whole }) => Ok(Asked { at, turn, is_whole }),
-        Ok(NodeRequest::Init { is_whole }) => Err(Ok(NodeRequest::Init { is_whole })),
-        Ok(NodeRequest::Last) => Err(Ok(NodeRequest::Last)),
-        Ok(NodeRequest::Wants { turn, newest }) => Err(Ok(NodeRequest::Wants { turn, newest })),
-        Ok(NodeRequest::Read { key, version }) => Err(Ok(NodeRequest::Read { key, version })),
-        Ok(
-            NodeRequest::Back {
-                at,
-                hearing,
-                is_whole,
-            },
-        ) => Err(Ok(NodeRequest::Back {
-            at,
-            hearing,
-            is_whole,
-        })),
+        Ok(request) => match asked_of(request) {
+            Ok(asked) => Ok(asked),
+            Err(request) => Err(Ok(request)),
+        },
         Err(bad) => Err(Err(bad)),
+    }
+}
+
+/// The turn that a request is; the request again if it is none.
+fn asked_of(request: NodeRequest) -> Result<Asked, NodeRequest> {
+    match request {
+        NodeRequest::Take { at, turn, is_whole } => Ok(Asked { at, turn, is_whole }),
+        other => Err(other),
     }
 }
 
