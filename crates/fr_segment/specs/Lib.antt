@@ -6,5 +6,6 @@ pub mod Parse
 pub mod State
 pub mod Put
 pub mod Opening
+pub mod Room
 pub mod Laws
 pub mod Header

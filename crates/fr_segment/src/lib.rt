@@ -29,6 +29,7 @@
 
 mod crc;
 mod gate;
+mod group_file;
 mod laws;
 mod parse;
 mod place;
@@ -40,6 +41,7 @@ mod tests;
 mod whose;
 
 pub use crc::{crc32c, sum};
+pub use group_file::{GroupFile, Sizes};
 pub use laws::{crc_law, damage_law, header_law, left_law};
 pub use segment::Segment;
 pub use spell::group_len;
