@@ -19,3 +19,9 @@ mod ParseLemmas
 mod ReadLemmas
 mod TableIs
 mod HeaderLemmas
+mod PairRun
+mod TurnsLemmas
+mod InTurn
+mod RenewRun
+mod Renewed
+mod FirstLemmas

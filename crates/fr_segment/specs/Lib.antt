@@ -9,3 +9,9 @@ pub mod Opening
 pub mod Room
 pub mod Laws
 pub mod Header
+pub mod Turns
+pub mod Pair
+pub mod First
+pub mod Health
+pub mod Way
+pub mod PairLaws
