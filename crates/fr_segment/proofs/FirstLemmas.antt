@@ -18,7 +18,7 @@ use Rattle.fr_segment.proofs.TurnsLemmas.{led_long, begins_once, never_both}
 
 -- more than a front of two lists one behind the other
 take_past : (a b : List ℕ) (n k : ℕ) → n ≡ length a + k → take n (a ++ b) ≡ a ++ take k b
-take_past [] b n k is = ap (λ m. take m b) is
+take_past [] b n k is = let e : n ≡ k = omega (arith, is) in ap (λ m. take m b) e
 take_past (x ∷ a) b zero k is = absurd (omega (arith, is))
 take_past (x ∷ a) b (suc n) k is = ap (λ l. x ∷ l) (take_past a b n k (omega (arith, is)))
 
@@ -129,4 +129,4 @@ first_closed identity a nothing (File n) missing file = absurd (never_both n ide
 pub below_older : (n : ℕ) (identity b : List ℕ) (f : First) → IsBelow n f → (f ≡ Closed → HoldsNothing b) → ((l : ℕ) → f ≡ File l → BeginsWith l identity b) → IsOlder n identity b
 below_older n identity b Missing below closed file = absurd below
 below_older n identity b Closed below closed file = inl (closed refl)
-below_older n identity b (File l) below closed file = inr (l, (below, file l refl))
+below_older n identity b (File l) below closed file = inr (l, below, file l refl)

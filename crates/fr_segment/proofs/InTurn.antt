@@ -43,22 +43,22 @@ some_size (v ∷ vs) some = refl
 pub class_stands : (number : ℕ) (identity : List ℕ) (groups : List Group) (health : Health) → number < 2 ^ 64 → IsHeaded number identity groups → IsFit number identity groups health → (a b : List ℕ) → IsCurrentLeft groups health a
     → IsOtherLeft number identity health b → HasRecords identity (λ rs. (rs ≡ own_records groups) ⊎ (owed_by (own_records groups) health ≡ Some rs)) a b
 class_stands number identity groups Works small headed fit a b left older =
-    (own_records groups, (first_stands number identity groups small headed a b (rest_stands a groups left) older, inl refl))
+    (own_records groups, first_stands number identity groups small headed a b (rest_stands a groups left) older, inl refl)
 class_stands number identity groups Failed small headed fit a b left older =
-    (own_records groups, (first_stands number identity groups small headed a b (rest_stands a groups left) older, inl refl))
+    (own_records groups, first_stands number identity groups small headed a b (rest_stands a groups left) older, inl refl)
 class_stands number identity groups (Appending put) small headed fit a b left older =
     let g = group_of put.value.items in
     elim (flight_stands number identity groups small headed a b g fit left older) [
-      | inl without ↦ (own_records groups, (without, inl refl))
-      | inr with_it ↦ (own_records groups ++ g, (with_it, inr refl))
+      | inl without ↦ (own_records groups, without, inl refl)
+      | inr with_it ↦ (own_records groups ++ g, with_it, inr refl)
     ]
 class_stands number identity groups (Replacing put) small headed fit a b left (inl older) =
-    (own_records groups, (first_stands number identity groups small headed a b (rest_stands a groups left) older, inl refl))
+    (own_records groups, first_stands number identity groups small headed a b (rest_stands a groups left) older, inl refl)
 class_stands number identity groups (Replacing put) small headed fit a b left (inr flight) =
     let g = group_of put.value.items in
     elim (next_stands number identity groups small headed a b g fit (rest_stands a groups left) flight) [
-      | inl old ↦ (own_records groups, (old, inl refl))
-      | inr new ↦ (drop 1 g, (new, inr refl))
+      | inl old ↦ (own_records groups, old, inl refl)
+      | inr new ↦ (drop 1 g, new, inr refl)
     ]
 
 -- the current file begins with its header whatever a crash leaves
@@ -148,7 +148,7 @@ module _ {D : Type 0} (Led : D → D → Type 0) (disk : D → Disk) (current : 
         go (Replacing put) e one two = absurd (cc e)
 
     pub works_stand : has_failed health ≡ false → (a b : List ℕ) → IsAtRest current.groups a → IsOlder number identity b → HasRecords identity (λ rs. rs ≡ own_records current.groups) a b
-    works_stand works a b rest older = (own_records current.groups, (first_stands number identity current.groups it.small it.headed a b (rest_stands a current.groups rest) older, refl))
+    works_stand works a b rest older = (own_records current.groups, first_stands number identity current.groups it.small it.headed a b (rest_stands a current.groups rest) older, refl)
 
     pub resting : has_failed health ≡ false → IsWay Led disk (λ rs. rs ≡ own_records current.groups) state state
     resting works =
@@ -174,8 +174,8 @@ module _ {D : Type 0} (Led : D → D → Type 0) (disk : D → Disk) (current : 
         let left = works_left works in
         let P : List (List ℕ) → Type 0 = λ rs. (rs ≡ own_records current.groups) ⊎ (rs ≡ own_records current.groups ++ g) in
         let either : (a b : List ℕ) → IsLeft current.groups g a → IsOlder number identity b → HasRecords identity P a b = λ a b flight older. elim (flight_stands number identity current.groups it.small it.headed a b g short flight older) [
-          | inl without ↦ (own_records current.groups, (without, inl refl))
-          | inr with_it ↦ (own_records current.groups ++ g, (with_it, inr refl))
+          | inl without ↦ (own_records current.groups, without, inl refl)
+          | inr with_it ↦ (own_records current.groups ++ g, with_it, inr refl)
         ] in
         record {
           owner = owner;
@@ -193,10 +193,10 @@ module _ {D : Type 0} (Led : D → D → Type 0) (disk : D → Disk) (current : 
 
       either_file : (a b : List ℕ) → IsAtRest current.groups a → IsRenewed (disk other).content new b → HasRecords identity Either a b
       either_file a b rest renewed = elim (renewed_other number identity (disk other).content new b g new_is older_now renewed) [
-        | inl older ↦ (own_records current.groups, (first_stands number identity current.groups it.small it.headed a b (rest_stands a current.groups rest) older, inl refl))
+        | inl older ↦ (own_records current.groups, first_stands number identity current.groups it.small it.headed a b (rest_stands a current.groups rest) older, inl refl)
         | inr flight ↦ elim (next_stands number identity current.groups it.small it.headed a b g next (rest_stands a current.groups rest) flight) [
-            | inl old ↦ (own_records current.groups, (old, inl refl))
-            | inr begun_anew ↦ (drop 1 g, (begun_anew, inr refl))
+            | inl old ↦ (own_records current.groups, old, inl refl)
+            | inr begun_anew ↦ (drop 1 g, begun_anew, inr refl)
           ]
       ]
 
@@ -216,7 +216,7 @@ module _ {D : Type 0} (Led : D → D → Type 0) (disk : D → Disk) (current : 
       turned_way last owner same run = record {
         owner = owner;
         run = subst (λ d. PairThroughout Led disk (HasRecords identity Either) (current.device, other) (last.current, d)) (sym same)
-            (exchanged Led disk (HasRecords identity Either) (λ a b has. (has.0, (pair_exchanged identity has.0 a b has.1, has.2))) (current.device, other) current.device last.current (renewed_run last.current run));
+            (exchanged Led disk (HasRecords identity Either) (λ a b has. (has.0, pair_exchanged identity has.0 a b has.1, has.2)) (current.device, other) current.device last.current (renewed_run last.current run));
       }
 
       -- what a crash leaves of the other device then
@@ -226,4 +226,4 @@ module _ {D : Type 0} (Led : D → D → Type 0) (disk : D → Disk) (current : 
     -- and of the one that was current
     pub older_left : has_failed health ≡ false → number + 1 < 2 ^ 64 → (left : List ℕ) → MayLeave (disk current.device) left → IsOlder (number + 1) identity left
     older_left works small left may =
-        inr (number, (omega arith, headed_begins number identity current.groups left it.small it.headed (rest_stands left current.groups ((works_left works).0 left may))))
+        inr (number, omega arith, headed_begins number identity current.groups left it.small it.headed (rest_stands left current.groups ((works_left works).0 left may)))

@@ -25,3 +25,4 @@ mod InTurn
 mod RenewRun
 mod Renewed
 mod FirstLemmas
+mod NextTurn

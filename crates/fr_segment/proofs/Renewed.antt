@@ -16,7 +16,7 @@ length-spelled_group number g =
     omega (arith, length-append (behind number g) (guard (number + 1)), length-guard (number + 1), length-append (block number (body g)) (0 ∷ 0 ∷ []), length-block number (body g))
 
 -- a device that holds nothing
-blank : Disk
+abbrev blank : Disk
 blank = record { content = 0 ∷ 0 ∷ []; is_kept = λ i. true; kept_len = 2 }
 
 blank_file : IsFile blank [] 0 false (groups_in 0 (0 ∷ 0 ∷ []))

@@ -12,7 +12,7 @@ use Rattle.fr_segment.proofs.ReadLemmas.{closed_or_open, left_stands, rest_stand
 use Rattle.fr_segment.proofs.TableLemmas.{all-records-append}
 
 -- ---- what a file begins with
-led_long : (first more : List ℕ) → length (led_by first more) ≡ 4 + length first + length more
+pub led_long : (first more : List ℕ) → length (led_by first more) ≡ 4 + length first + length more
 led_long first more = omega (arith, length-append (be32 (length first)) (first ++ more), length-append first more, length-spelled (length first))
 
 -- bodies that are led by one record each are led by one
@@ -66,7 +66,9 @@ own_more n identity groups g headed =
 pub own_long : (n : ℕ) (identity : List ℕ) (groups : List Group) → IsHeaded n identity groups → length (records_of_all groups) ≡ 1 + length (own_records groups)
 own_long n identity groups headed =
     let is = ap records_of_all headed.split in
-    ap length is ∙ ap (λ rs. 1 + length (drop 1 rs)) (sym is)
+    let all = ap length is in
+    let own = ap (λ rs. length (drop 1 rs)) is in
+    omega (arith, all, own)
 
 -- ---- a pair stands for one list of records
 -- the current file of one reading is not the older one of another
@@ -122,7 +124,7 @@ module _ (n : ℕ) (identity : List ℕ) (groups : List Group) (small : n < 2 ^ 
     | inr there ↦ inr (record {
         number = n + 1;
         groups = g ∷ [];
-        turns = inr (record { small = next.small; headed = next.headed; stands = there; older = inr (n, (omega arith, headed_begins n identity groups a small headed stands)) });
+        turns = inr (record { small = next.small; headed = next.headed; stands = there; older = inr (n, omega arith, headed_begins n identity groups a small headed stands) });
         own = ap (λ rs. drop 1 rs) (sym (append-nil g));
       })
   ]
@@ -135,14 +137,14 @@ pub closing_older : (n : ℕ) (identity old left : List ℕ) → IsOlder n ident
 closing_older n identity old left (inl nothing) closing = subst (λ l. IsOlder n identity l) (sym (closing.closed nothing.1)) (inl nothing)
 closing_older n identity old left (inr older) closing = elim (closed_or_open left 0 closing.long) [
   | inl closed ↦ inl (closing.long, closed)
-  | inr opens ↦ inr (older.0, (older.1, record {
+  | inr opens ↦ inr (older.0, older.1, record {
       more = older.2.more;
       rest = older.2.rest;
       small = older.2.small;
       not_closed = opens;
       short = older.2.short;
       split = closing.end ∙ older.2.split;
-    }))
+    })
 ]
 
 -- while a file is begun anew, it is older, holds nothing, or has the new group in flight

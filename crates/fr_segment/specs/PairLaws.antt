@@ -33,7 +33,7 @@ module _ {D : Type 0} (Led : D → D → Type 0) (disk : D → Disk) where
   pub way_weaker : (P Q : List (List ℕ) → Type 0) (f g : TurnsFile D) → ((rs : List (List ℕ)) → P rs → Q rs) → IsWay Led disk P f g → IsWay Led disk Q f g
   way_weaker P Q f g weakens way = record {
     owner = way.owner;
-    run = weaker_both (HasRecords f.identity P) (HasRecords f.identity Q) (λ a b it. (it.0, (it.1, weakens it.0 it.2))) (f.current, f.other) (g.current, g.other) way.run;
+    run = weaker_both (HasRecords f.identity P) (HasRecords f.identity Q) (λ a b it. (it.0, it.1, weakens it.0 it.2)) (f.current, f.other) (g.current, g.other) way.run;
   }
 
   pub way_joined : (P : List (List ℕ) → Type 0) (f g h : TurnsFile D) → IsWay Led disk P f g → IsWay Led disk P g h → IsWay Led disk P f h

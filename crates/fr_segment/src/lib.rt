@@ -41,12 +41,14 @@ mod segment;
 mod spell;
 #[cfg(test)]
 mod tests;
+#[cfg(test)]
+mod tests_turns;
 mod turns;
 mod whose;
 
 pub use crc::{crc32c, sum};
 pub use group_file::{GroupFile, Sizes};
-pub use laws::{crc_law, damage_law, header_law, left_law};
+pub use laws::{crc_law, damage_law, header_law, left_law, pair_law};
 pub use open_fault::OpenFault;
 pub use segment::Segment;
 pub use spell::group_len;

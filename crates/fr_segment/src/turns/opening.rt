@@ -107,4 +107,12 @@ impl<D: Device> Segments<D> {
             Err(RecordFault::Failed) => unreachable!(),
         }
     }
+
+    /// Gives the devices back, that of the current file first.
+    pub fn into_devices(self) -> (D, D)
+        ensures current { result.0 ≡ self.current }
+        ensures other { result.1 ≡ self.other }
+    {
+        (self.current.into_device(), self.other)
+    }
 }
