@@ -16,7 +16,7 @@ use Rattle.fr_segment.specs.State.{SegmentFile}
 use Rattle.fr_segment.specs.Table.{groups_in}
 use Rattle.fr_segment.specs.Turns.{IsHeaded, own_records, BeginsWith, HoldsNothing, IsOlder, PairStandsFor}
 use Rattle.fr_segment.specs.Pair.{LeavesBoth, PairThroughout}
-use Rattle.fr_segment.specs.PairLaws.{begun, weaker_both, at_end}
+use Rattle.fr_segment.specs.PairLaws.{begun, weaker_both, at_end, way_weaker}
 use Rattle.fr_segment.specs.Way.{TurnsFile, HasRecords, IsWay}
 use Rattle.fr_segment.proofs.AllLemmas.{all_first, all_none}
 use Rattle.fr_segment.proofs.Crash.{durable_leaves, stands_leaves}
@@ -38,6 +38,13 @@ group_spelled number g bytes short is =
 pub some_size : (group : List (Vec ℕ Global)) → 0 < length group → group_size (records_of group) ≡ length (body (records_of group)) + 14
 some_size [] some = absurd (omega (arith, some))
 some_size (v ∷ vs) some = refl
+
+-- a pair that works owes nothing
+pub works_owe : (records : List (List ℕ)) (health : Health) → has_failed health ≡ false → owed_by records health ≡ None
+works_owe records Works works = refl
+works_owe records Failed works = absurd (cc works)
+works_owe records (Appending put) works = absurd (cc works)
+works_owe records (Replacing put) works = absurd (cc works)
 
 -- whatever a crash leaves stands for the records, or for those owed
 pub class_stands : (number : ℕ) (identity : List ℕ) (groups : List Group) (health : Health) → number < 2 ^ 64 → IsHeaded number identity groups → IsFit number identity groups health → (a b : List ℕ) → IsCurrentLeft groups health a
@@ -154,6 +161,10 @@ module _ {D : Type 0} (Led : D → D → Type 0) (disk : D → Disk) (current : 
     resting works =
         let left = works_left works in
         record { owner = refl; run = begun Led disk (HasRecords identity (λ rs. rs ≡ own_records current.groups)) (current.device, other) (λ a b left_a left_b. works_stand works a b (left.0 a left_a) (left.1 b left_b)) }
+
+    -- and so whatever else they may be
+    pub resting_either : has_failed health ≡ false → (Q : List (List ℕ) → Type 0) → IsWay Led disk (λ rs. (rs ≡ own_records current.groups) ⊎ Q rs) state state
+    resting_either works Q = way_weaker Led disk (λ rs. rs ≡ own_records current.groups) (λ rs. (rs ≡ own_records current.groups) ⊎ Q rs) state state (λ rs is. inl is) (resting works)
 
     -- a read
     pub read_way : has_failed health ≡ false → (last : TurnsFile D) → last.identity ≡ identity → last.other ≡ other → Throughout Led disk (MayLeave (disk current.device)) current.device last.current

@@ -26,3 +26,4 @@ mod RenewRun
 mod Renewed
 mod FirstLemmas
 mod NextTurn
+mod Replacing

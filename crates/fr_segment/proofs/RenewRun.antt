@@ -29,6 +29,18 @@ closed_zeros [] long closed = absurd (omega (arith, long))
 closed_zeros (x ∷ []) long closed = absurd (omega (arith, long))
 closed_zeros (x ∷ y ∷ bytes) long closed = ap (λ (k : ℕ). k ∷ y ∷ []) closed.0 ∙ ap (λ (k : ℕ). 0 ∷ k ∷ []) closed.1
 
+-- a gate that was read on its own
+pub gate_shut : (bytes gate : List ℕ) → gate ≡ take 2 bytes → IsClosedAt gate 0 → IsClosedAt bytes 0
+gate_shut bytes gate is closed = (
+  sym (get_or-take 2 bytes 0 1 (omega arith)) ∙ ap (λ l. get_or l 0 1) (sym is) ∙ closed.0,
+  sym (get_or-take 2 bytes 1 1 (omega arith)) ∙ ap (λ l. get_or l 1 1) (sym is) ∙ closed.1,
+)
+
+pub shut_gate : (bytes gate : List ℕ) → 1 < length bytes → gate ≡ take 2 bytes → IsClosedAt bytes 0 → (0 + 1 < length gate) × IsClosedAt gate 0
+shut_gate bytes gate long is closed =
+    let zeros = is ∙ closed_zeros bytes long closed in
+    (let e = ap length zeros in omega (arith, e), (ap (λ l. get_or l 0 1) zeros, ap (λ l. get_or l 1 1) zeros))
+
 module _ {D : Type 0} (Led : D → D → Type 0) (disk : D → Disk) (first : D) (within : 1 < length (disk first).content) (durable : IsDurable (disk first)) where
   abbrev pub Closing : D → Type 0
   Closing = Throughout Led disk (IsClosing (disk first).content) first

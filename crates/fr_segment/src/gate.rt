@@ -7,6 +7,7 @@ ghost use Rattle.fr_record.specs.Count.{counted};
 ghost use Rattle.fr_segment.specs.File.{IsClosedAt};
 ghost use Rattle.fr_segment.specs.Put.{IsAtGate, IsPut, IsClosing, IsRenewed};
 
+use crate::parse::is_closed;
 use fr_record::{Device, DeviceFault};
 
 /// Writes bytes behind a gate and then opens it, each on the device before the next.
@@ -52,7 +53,7 @@ fn close_first<D: Device>(device: &mut D) -> Result<(), DeviceFault>
     device.read_at(0, &mut gate)?;
     // A closed gate is not written again. A crash could tear that write, and leave an open gate before anything
     // (invariant 13).
-    if gate == [0, 0] {
+    if is_closed(&gate, 0) {
         return Ok(());
     }
     let _within = device.capacity();
@@ -75,5 +76,6 @@ pub(crate) fn renew<D: Device>(device: &mut D, new: &[u8]) -> Result<(), DeviceF
 {
     // First of all: between an old group's gate and new bytes behind it a crash would leave damage (invariant 13).
     close_first(device)?;
-    put(device, 0, new)
+    put(device, 0, new)?;
+    Ok(())
 }

@@ -17,8 +17,9 @@
 //!     of the newer file never brings back the older one in silence.
 //! 16. After a fault the pair has failed until it is opened again. `health` says what was in flight: whatever a crash leaves
 //!     stands for the records before the call, or for those it was to lead to (`AreInTurn`).
-ghost use Rattle.std.specs.Prelude.{◌≡◌, ◌↔◌, ◌+◌, ◌-◌, ◌^◌, ◌<◌, ◌≤◌, min, length, IsTrue};
-ghost use Rattle.fr_segment.specs.File.{body, groups_from};
+ghost use Rattle.std.specs.Prelude.{◌≡◌, ◌↔◌, ◌+◌, ◌-◌, ◌^◌, ◌<◌, ◌≤◌, ◌∷◌, ◌++◌, min, length, IsTrue, IfOk};
+ghost use Rattle.fr_segment.specs.File.{behind, body, groups_from, guard};
+ghost use Rattle.fr_segment.specs.Header.{header};
 ghost use Rattle.fr_segment.specs.Group.{records_of};
 
 mod file;
@@ -27,9 +28,11 @@ mod reopen;
 
 use crate::health::Health;
 use crate::segment::Segment;
-use crate::spell::group_len;
-use fr_base::Bytes;
+use crate::spell::{behind_gate, group_len, headed_body};
+use crate::whose::header;
+use fr_base::{Bytes, Memory};
 use fr_record::Device;
+use std::alloc::Global;
 use std::marker::Model;
 
 /// Four bytes spell the length of a group, so a group is shorter.
@@ -61,6 +64,14 @@ impl<D: Device> Model for Segments<D> {
     } };
 
     ghost invariant = { λ s. AreInTurn D.disk s.current s.other s.number s.identity s.health };
+}
+
+/// The first group of the next file: its number, its header, and the bytes that are put behind the gate.
+#[derive(Drop)]
+struct Next {
+    number: u64,
+    header: Vec<u8>,
+    new: Vec<u8>,
 }
 
 /// A capacity as far as groups can use it.
@@ -101,5 +112,28 @@ impl<D: Device> Segments<D> {
     {
         let need = self.front().saturating_add(group_len(group)).saturating_add(24);
         need <= limited(self.other.capacity())
+    }
+
+    /// The first group of the next file, for which there is room.
+    fn next(&self, alloc: Global, group: &[Vec<u8>]) -> Result<Next, Memory>
+        requires { length self.now.identity + 19 + length (body (records_of group.now)) + 24 < 2 ^ 32 }
+        ensures number { IfOk result (λ next. next.number ≡ self.now.number + 1) }
+        ensures header { IfOk result (λ next. next.header.items ≡ header (self.now.number + 1) self.now.identity) }
+        ensures new { IfOk result (λ next. next.new.items
+            ≡ behind 0 (header (self.now.number + 1) self.now.identity ∷ records_of group.now) ++ guard 1) }
+    {
+        let number = match self.number.checked_add(1) {
+            Some(number) => number,
+            // No pair comes to 2^64 files. It is answered as a want of memory, which changes nothing.
+            None => return Err(Memory),
+        };
+        let header = header(alloc, number, self.identity.as_slice())?;
+        let body = headed_body(alloc, &header, group)?;
+        let new = behind_gate(alloc, 0, &body)?;
+        Ok(Next {
+            number,
+            header,
+            new,
+        })
     }
 }

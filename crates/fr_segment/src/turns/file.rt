@@ -5,8 +5,6 @@ use super::{Segments, limited};
 use crate::first::Turn;
 use crate::group_file::{GroupFile, Sizes};
 use crate::health::Health;
-use crate::spell::{behind_gate, headed_body};
-use crate::whose::header;
 use fr_base::Bytes;
 use fr_record::{Device, RecordFault};
 use std::alloc::Global;
@@ -119,21 +117,20 @@ impl<D: Device> GroupFile for Segments<D> {
         if !self.has_next_room(group) {
             return Err(RecordFault::Full);
         }
-        let number = match self.number.checked_add(1) {
-            Some(number) => number,
-            // No pair comes to 2^64 files. It is answered as a want of memory, which changes nothing.
-            None => return Err(RecordFault::Memory),
+        let next = match self.next(alloc, group) {
+            Ok(next) => next,
+            Err(_) => return Err(RecordFault::Memory),
         };
-        let header = header(alloc, number, self.identity.as_slice())?;
-        let body = headed_body(alloc, &header, group)?;
-        let new = behind_gate(alloc, 0, &body)?;
-        match self.current.turn(alloc, &mut self.other, &header, group, &new) {
+        match self
+            .current
+            .turn(alloc, &mut self.other, &next.header, group, &next.new)
+        {
             Ok(()) => {
-                self.number = number;
+                self.number = next.number;
                 Ok(())
             }
             Err(RecordFault::Device) => {
-                self.health = Health::Replacing(Snapshot::of(&new));
+                self.health = Health::Replacing(Snapshot::of(&next.new));
                 Err(RecordFault::Device)
             }
             Err(RecordFault::Memory) => Err(RecordFault::Memory),

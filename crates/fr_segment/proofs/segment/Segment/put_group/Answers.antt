@@ -50,6 +50,24 @@ unreachable-requires g c =
     let b = body (records_of c.args.group.now) in
     omega (arith, end, groups, capacity, full.1, bytes, c.requires.room, length-append (behind c.self.inside.count (records_of c.args.group.now)) (guard (c.self.inside.count + 1)), length-guard (c.self.inside.count + 1), length-append (block c.self.inside.count b) (0 ∷ 0 ∷ []), length-block c.self.inside.count b)
 
+pub overflow_add-gate : goal.overflow_add-gate
+overflow_add-gate g c =
+    let bytes = ap length (spelled_there (g.D.Device.disk c.self.inside.device) c.self.inside.table.items c.self.inside.end c.self.inside.is_failed c.self.inside.count c.self.invariant.0 _ (ap (λ s. s.groups) c.self.view_is) (records_of c.args.group.now) _ c.requires.bytes) in
+    let b = body (records_of c.args.group.now) in
+    record {
+      fits = omega (
+        arith,
+        bytes,
+        c.in-Ok.ensures.fits,
+        c.group_len-len.ensures,
+        c.requires.short,
+        length-append (behind c.self.inside.count (records_of c.args.group.now)) (guard (c.self.inside.count + 1)),
+        length-guard (c.self.inside.count + 1),
+        length-append (block c.self.inside.count b) (0 ∷ 0 ∷ []),
+        length-block c.self.inside.count b,
+      );
+    }
+
 pub overflow_add-self : goal.overflow_add-self
 overflow_add-self g c =
     let bytes = ap length (spelled_there (g.D.Device.disk c.self.inside.device) c.self.inside.table.items c.self.inside.end c.self.inside.is_failed c.self.inside.count c.self.invariant.0 _ (ap (λ s. s.groups) c.self.view_is) (records_of c.args.group.now) _ c.requires.bytes) in
@@ -70,6 +88,38 @@ overflow_add-self g c =
 
 pub overflow_add-self-2 : goal.overflow_add-self-2
 overflow_add-self-2 g c =
+    let bytes = ap length (spelled_there (g.D.Device.disk c.self.inside.device) c.self.inside.table.items c.self.inside.end c.self.inside.is_failed c.self.inside.count c.self.invariant.0 _ (ap (λ s. s.groups) c.self.view_is) (records_of c.args.group.now) _ c.requires.bytes) in
+    let b = body (records_of c.args.group.now) in
+    record {
+      fits = omega (
+        arith,
+        bytes,
+        c.in-Ok.ensures.fits,
+        c.group_len-len.ensures,
+        c.requires.short,
+        length-append (behind c.self.inside.count (records_of c.args.group.now)) (guard (c.self.inside.count + 1)),
+        length-guard (c.self.inside.count + 1),
+        length-append (block c.self.inside.count b) (0 ∷ 0 ∷ []),
+        length-block c.self.inside.count b,
+      );
+    }
+
+pub add_places-requires-clause-fits : goal.add_places-requires-clause-fits
+add_places-requires-clause-fits g c =
+    let bytes = ap length (spelled_there (g.D.Device.disk c.self.inside.device) c.self.inside.table.items c.self.inside.end c.self.inside.is_failed c.self.inside.count c.self.invariant.0 _ (ap (λ s. s.groups) c.self.view_is) (records_of c.args.group.now) _ c.requires.bytes) in
+    let b = body (records_of c.args.group.now) in
+    omega (
+      arith,
+      bytes,
+      c.in-Ok.ensures.fits,
+      length-append (behind c.self.inside.count (records_of c.args.group.now)) (guard (c.self.inside.count + 1)),
+      length-guard (c.self.inside.count + 1),
+      length-append (block c.self.inside.count b) (0 ∷ 0 ∷ []),
+      length-block c.self.inside.count b,
+    )
+
+pub overflow_add-self-3 : goal.overflow_add-self-3
+overflow_add-self-3 g c =
     let end = end_is (g.D.Device.disk c.self.inside.device) c.self.inside.table.items c.self.inside.end c.self.inside.is_failed c.self.inside.count c.self.invariant.0 in
     let count = count_is (g.D.Device.disk c.self.inside.device) c.self.inside.table.items c.self.inside.end c.self.inside.is_failed c.self.inside.count c.self.invariant.0 in
     let long = groups_long 0 (groups_in c.self.inside.count (g.D.Device.disk c.self.inside.device).content) in

@@ -12,7 +12,7 @@ behind_gate-requires-clause-next g c =
     let count = count_is (g.D.Device.disk c.self.inside.device) c.self.inside.table.items c.self.inside.end c.self.inside.is_failed c.self.inside.count c.self.invariant.0 in
     let long = groups_long 0 (groups_in c.self.inside.count (g.D.Device.disk c.self.inside.device).content) in
     let groups = ap (λ s. length (groups_from 0 s.groups)) c.self.view_is in
-    omega (arith, count, long, groups, c.has_room.ensures.within, c.has_room.ensures.least)
+    omega (arith, count, long, groups, c.has_room-within.ensures.within, c.has_room-within.ensures.least)
 
 pub returns : goal.returns
 returns g c =
