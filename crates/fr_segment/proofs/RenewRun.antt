@@ -1,5 +1,6 @@
 -- A first gate that is closed, and a file that is begun anew, call by call.
 use Rattle.std.proofs.Common.{◌≡◌, ◌⊎◌, inl, inr, ℕ, ◌+◌, ◌<◌, ◌≤◌, List, [], ◌∷◌, ◌++◌, length, get_or, take, drop, refl, sym, ap, ◌∙◌, subst, arith, length-append}
+use Rattle.std.specs.Prelude.{Result, Ok, Err, OnErr}
 use Rattle.std.proofs.lemmas.List.{get_or-take, drop-take, drop_at}
 use Rattle.fr_record.specs.Disk.{Disk, MayLeave, IsDurable, Stands, Torn, written}
 use Rattle.fr_record.specs.Moments.{Throughout}
@@ -8,6 +9,11 @@ use Rattle.fr_segment.specs.Put.{IsAtGate, IsPut, IsClosing, IsRenewed}
 use Rattle.fr_segment.proofs.Crash.{durable_leaves, stands_leaves, torn_end, torn_long}
 use Rattle.fr_segment.proofs.Grown.{put_long}
 use Rattle.fr_segment.proofs.Moments.{started, goes_on, weaker, joined}
+
+-- what is so anyway is so after a refusal
+pub always_err : {X E : Type 0} (T : Type 0) (result : Result X E) → T → OnErr result T
+always_err T (Ok x) it = tt
+always_err T (Err e) it = it
 
 -- what a crash leaves outlasts a call that changes nothing
 pub durable_stays : (old new : Disk) → IsDurable old → Stands old new → IsDurable new
