@@ -206,9 +206,9 @@ module _ {D : Type 0} (Led : D → D → Type 0) (disk : D → Disk) (current : 
       either_file a b rest renewed = elim (renewed_other number identity (disk other).content new b g new_is older_now renewed) [
         | inl older ↦ (own_records current.groups, first_stands number identity current.groups it.small it.headed a b (rest_stands a current.groups rest) older, inl refl)
         | inr flight ↦ elim (next_stands number identity current.groups it.small it.headed a b g next (rest_stands a current.groups rest) flight) [
-            | inl old ↦ (own_records current.groups, old, inl refl)
-            | inr begun_anew ↦ (drop 1 g, begun_anew, inr refl)
-          ]
+          | inl old ↦ (own_records current.groups, old, inl refl)
+          | inr begun_anew ↦ (drop 1 g, begun_anew, inr refl)
+        ]
       ]
 
       renewed_run : (last : D) → Throughout Led disk (IsRenewed (disk other).content new) other last → PairThroughout Led disk (HasRecords identity Either) (current.device, other) (current.device, last)

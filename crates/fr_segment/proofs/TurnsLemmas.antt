@@ -110,11 +110,11 @@ module _ (n : ℕ) (identity : List ℕ) (groups : List Group) (small : n < 2 ^ 
   flight_stands g short left older = elim (left_stands a groups g short left) [
     | inl without ↦ inl (first_stands without older)
     | inr with_it ↦ inr (record {
-        number = n;
-        groups = groups ++ g ∷ [];
-        turns = inl (record { small = small; headed = headed_more n identity groups g headed; stands = with_it; older = older });
-        own = sym (own_more n identity groups g headed);
-      })
+      number = n;
+      groups = groups ++ g ∷ [];
+      turns = inl (record { small = small; headed = headed_more n identity groups g headed; stands = with_it; older = older });
+      own = sym (own_more n identity groups g headed);
+    })
   ]
 
   -- the next file in flight on the other device
@@ -122,11 +122,11 @@ module _ (n : ℕ) (identity : List ℕ) (groups : List Group) (small : n < 2 ^ 
   next_stands g next stands left = elim (left_stands b [] g next.short left) [
     | inl none ↦ inl (first_stands stands (inl (nothing_there b none)))
     | inr there ↦ inr (record {
-        number = n + 1;
-        groups = g ∷ [];
-        turns = inr (record { small = next.small; headed = next.headed; stands = there; older = inr (n, omega arith, headed_begins n identity groups a small headed stands) });
-        own = ap (λ rs. drop 1 rs) (sym (append-nil g));
-      })
+      number = n + 1;
+      groups = g ∷ [];
+      turns = inr (record { small = next.small; headed = next.headed; stands = there; older = inr (n, omega arith, headed_begins n identity groups a small headed stands) });
+      own = ap (λ rs. drop 1 rs) (sym (append-nil g));
+    })
   ]
     where
       nothing_there : (file : List ℕ) → StandsFor file [] → HoldsNothing file
@@ -137,14 +137,18 @@ pub closing_older : (n : ℕ) (identity old left : List ℕ) → IsOlder n ident
 closing_older n identity old left (inl nothing) closing = subst (λ l. IsOlder n identity l) (sym (closing.closed nothing.1)) (inl nothing)
 closing_older n identity old left (inr older) closing = elim (closed_or_open left 0 closing.long) [
   | inl closed ↦ inl (closing.long, closed)
-  | inr opens ↦ inr (older.0, older.1, record {
+  | inr opens ↦ inr (
+    older.0,
+    older.1,
+    record {
       more = older.2.more;
       rest = older.2.rest;
       small = older.2.small;
       not_closed = opens;
       short = older.2.short;
       split = closing.end ∙ older.2.split;
-    })
+    },
+  )
 ]
 
 -- while a file is begun anew, it is older, holds nothing, or has the new group in flight

@@ -45,7 +45,11 @@ fn holds(alloc: Global, pair: &mut Segments<MemoryDevice>, records: &[u8]) -> bo
 /// What the pair holds after each of four calls: a group, a replacement, a group, a replacement.
 static AFTER: [&[u8]; 5] = [b"", b"a", b"b", b"bc", b"d"];
 
-fn call(alloc: Global, pair: &mut Segments<Faulty>, step: usize) -> Option<Result<(), RecordFault>> {
+fn call(
+    alloc: Global,
+    pair: &mut Segments<Faulty>,
+    step: usize,
+) -> Option<Result<(), RecordFault>> {
     let bytes: &[u8] = match step {
         0 => b"a",
         1 => b"b",
@@ -61,8 +65,19 @@ fn call(alloc: Global, pair: &mut Segments<Faulty>, step: usize) -> Option<Resul
 }
 
 /// The two devices after a crash, and how many calls were acknowledged before it.
-fn crashed(alloc: Global, first: u64, second: u64, fill: u8) -> Option<(MemoryDevice, MemoryDevice, usize)> {
-    let mut pair = Segments::make(alloc, device(alloc, first)?, device(alloc, second)?, owner(alloc)?).ok()?;
+fn crashed(
+    alloc: Global,
+    first: u64,
+    second: u64,
+    fill: u8,
+) -> Option<(MemoryDevice, MemoryDevice, usize)> {
+    let mut pair = Segments::make(
+        alloc,
+        device(alloc, first)?,
+        device(alloc, second)?,
+        owner(alloc)?,
+    )
+    .ok()?;
     let mut done = 0;
     for step in 0..4 {
         match call(alloc, &mut pair, step)? {
@@ -137,7 +152,10 @@ fn refusal(alloc: Global, one: MemoryDevice, two: MemoryDevice, whose: &[u8]) ->
 #[test]
 fn refusals(rt: HostRuntime) -> Result<(), Fail> {
     let alloc = rt.alloc();
-    let (one, two) = (MemoryDevice::new(alloc, ROOM)?, MemoryDevice::new(alloc, ROOM)?);
+    let (one, two) = (
+        MemoryDevice::new(alloc, ROOM)?,
+        MemoryDevice::new(alloc, ROOM)?,
+    );
     assert!(rt; refusal(alloc, one, two, b"mine") == Some(OpenFault::Unmade));
     if let Some((one, two, _)) = crashed(alloc, 0, 0, 0) {
         assert!(rt; refusal(alloc, one, two, b"yours") == Some(OpenFault::Stranger));

@@ -110,7 +110,10 @@ impl<D: Device> Segments<D> {
         ensures value { IsTrue result ↔ (length self.now.identity + 19 + length (body (records_of group.now)) + 24
             ≤ min (D.capacity_of self.now.other) (2 ^ 32 - 1)) }
     {
-        let need = self.front().saturating_add(group_len(group)).saturating_add(24);
+        let need = self
+            .front()
+            .saturating_add(group_len(group))
+            .saturating_add(24);
         need <= limited(self.other.capacity())
     }
 
