@@ -7,7 +7,7 @@ use Rattle.fr_segment.specs.Health.{IsNext}
 use Rattle.fr_segment.specs.Room.{begun_size}
 use Rattle.fr_segment.specs.Turns.{led_by, BeginsWith, IsOlder, own_records}
 use Rattle.fr_segment.proofs.AllLemmas.{all_first, all_none}
-use Rattle.fr_segment.proofs.FileLemmas.{length-block, length-body, length-one}
+use Rattle.fr_segment.proofs.FileLemmas.{length-block, length-body, length-one, groups_push}
 use Rattle.fr_segment.proofs.Renewed.{length-spelled_group}
 
 pub begins_long : (n : ℕ) (identity file : List ℕ) → BeginsWith n identity file → 1 < length file
@@ -45,3 +45,7 @@ next_used n identity rs groups is = let e = ap (λ gs. length (groups_from 0 gs)
 
 pub next_own : (n : ℕ) (identity : List ℕ) (rs : Group) (groups : List Group) → groups ≡ (header n identity ∷ rs) ∷ [] → own_records groups ≡ rs
 next_own n identity rs groups is = ap own_records is ∙ append-nil rs
+
+-- one group more takes its bytes
+pub used_more : (gs : List Group) (g : Group) → length (groups_from 0 (gs ++ g ∷ [])) ≡ length (groups_from 0 gs) + (length (body g) + 14)
+used_more gs g = let e = ap length (groups_push gs g) in omega (arith, e, length-append (groups_from 0 gs) (groups_from (length gs) (g ∷ [])), length-one (length gs) g)
