@@ -15,6 +15,11 @@ pub always_err : {X E : Type 0} (T : Type 0) (result : Result X E) → T → OnE
 always_err T (Ok x) it = tt
 always_err T (Err e) it = it
 
+-- what a refusal tells
+pub err_tells : {X E : Type 0} (T : Type 0) (result : Result X E) (e : E) → result ≡ Err e → OnErr result T → T
+err_tells T (Ok x) e is it = absurd (cc is)
+err_tells T (Err f) e is it = it
+
 -- what a crash leaves outlasts a call that changes nothing
 pub durable_stays : (old new : Disk) → IsDurable old → Stands old new → IsDurable new
 durable_stays old new durable stands =
