@@ -1,5 +1,5 @@
 //! What a file begins with, whatever a crash made of its first gate.
-ghost use Rattle.std.specs.Prelude.{◌≡◌, ◌≢◌, ◌⊎◌, ◌+◌, ◌-◌, ◌^◌, ◌<◌, min, ℕ, length, Ok, Err, IfOk, IfErr, OnOk, OnErr};
+ghost use Rattle.std.specs.Prelude.{◌≡◌, ◌≢◌, ◌↔◌, ◌⊎◌, ◌+◌, ◌-◌, ◌^◌, ◌<◌, min, ℕ, length, Ok, Err, IfOk, IfErr, OnOk, OnErr, IsTrue};
 ghost use Rattle.fr_record.specs.Disk.{MayLeave, IsDurable, Stands};
 ghost use Rattle.fr_record.specs.Moments.{Throughout};
 ghost use Rattle.fr_segment.specs.Turns.{BeginsWith, HoldsNothing, IsForeign};
@@ -28,6 +28,13 @@ pub enum First {
 pub enum Turn {
     Former(u64),
     Latter(u64),
+}
+
+/// Whether two byte strings are the same.
+fn is_same(a: &[u8], b: &[u8]) -> bool
+    ensures { IsTrue result ↔ (a.now ≡ b.now) }
+{
+    a == b
 }
 
 /// What the bytes of a device begin with. The gate may be torn, and what is behind the first block is not looked at: while
@@ -64,7 +71,7 @@ fn first_in(bytes: &[u8], identity: &[u8]) -> Result<First, OpenFault>
         None => return Err(OpenFault::Broken),
     };
     // The checksums are right, so this is another owner's file and no damage.
-    if header[15..] != identity[..] {
+    if !is_same(&header[15..], identity) {
         return Err(OpenFault::Stranger);
     }
     Ok(First::File(number))
