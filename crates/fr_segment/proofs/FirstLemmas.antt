@@ -1,6 +1,6 @@
 -- What a device begins with, and which of two files is current.
 use Rattle.std.proofs.Common.{◌≡◌, ◌⊎◌, inl, inr, ℕ, zero, suc, ◌+◌, ◌-◌, ◌<◌, ◌≤◌, ◌^◌, List, [], ◌∷◌, ◌++◌, length, get_or, take, drop, refl, sym, ap, ◌∙◌, subst, arith, append_assoc, length-append, take-append-drop}
-use Rattle.std.proofs.lemmas.List.{take_at, drop_at, take-take, drop-take, drop-drop, length-take-le, length-drop}
+use Rattle.std.proofs.lemmas.List.{append-nil, take_at, drop_at, take-take, drop-take, drop-drop, length-take-le, length-drop}
 use Rattle.fr_segment.specs.declared.first.First.{First}
 use Rattle.fr_segment.specs.declared.first.First.TheVariants.{Missing, Closed, File}
 use Rattle.fr_segment.specs.declared.first.Turn.{Turn}
@@ -21,6 +21,10 @@ take_past : (a b : List ℕ) (n k : ℕ) → n ≡ length a + k → take n (a ++
 take_past [] b n k is = let e : n ≡ k = omega (arith, is) in ap (λ m. take m b) e
 take_past (x ∷ a) b zero k is = absurd (omega (arith, is))
 take_past (x ∷ a) b (suc n) k is = ap (λ l. x ∷ l) (take_past a b n k (omega (arith, is)))
+
+-- a list from a place on, as a slice says it
+pub rest_whole : (k : ℕ) (l : List ℕ) → take (length l - k) (drop k l) ≡ drop k l
+rest_whole k l = ap (λ x. take (length l - k) x) (sym (append-nil (drop k l))) ∙ take_at (drop k l) [] (length l - k) (length-drop k l)
 
 -- ---- the first block of a file
 module _ (bytes identity : List ℕ) (len record_len n : ℕ) (long : 1 < length bytes) (opens : IsClosedAt bytes 0 → ⊥) (found : IsBlockAt bytes 2 0 len) (four : 4 ≤ len) (within : record_len ≤ len - 4) (there : take 4 (drop 10 bytes) ≡ be32 record_len) where
