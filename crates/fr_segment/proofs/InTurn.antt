@@ -39,6 +39,10 @@ pub some_size : (group : List (Vec ℕ Global)) → 0 < length group → group_s
 some_size [] some = absurd (omega (arith, some))
 some_size (v ∷ vs) some = refl
 
+pub some_there : (group : List (Vec ℕ Global)) → (group ≡ [] → ⊥) → 0 < length group
+some_there [] some = absurd (some refl)
+some_there (v ∷ vs) some = omega arith
+
 -- a pair that works owes nothing
 pub works_owe : (records : List (List ℕ)) (health : Health) → has_failed health ≡ false → owed_by records health ≡ None
 works_owe records Works works = refl

@@ -5,7 +5,7 @@ use Rattle.fr_segment.specs.Group.{records_of}
 use Rattle.fr_segment.specs.Health.{has_failed, group_of}
 use Rattle.fr_segment.specs.Turns.{own_records}
 use Rattle.fr_segment.specs.Way.{IsWay}
-use Rattle.fr_segment.proofs.InTurn.{group_spelled, some_size, resting, resting_either, append_way}
+use Rattle.fr_segment.proofs.InTurn.{group_spelled, some_size, some_there, resting, resting_either, append_way}
 use Rattle.fr_segment.proofs.Moments.{at_last}
 use Rattle.fr_segment.proofs.NextTurn.{now_short, appended, append_failed}
 use Rattle.fr_segment.proofs.Replacing.{used_more}
@@ -52,7 +52,8 @@ returns-in-Ok-clause-kept g c =
 
 pub returns-in-Ok-clause-used : goal.returns-in-Ok-clause-used
 returns-in-Ok-clause-used g c =
-    let some : 0 < length c.args.group.now = search rules in
+    let present : c.args.group.now ≡ [] → ⊥ = search rules in
+    let some : 0 < length c.args.group.now = some_there c.args.group.now present in
     let grown = ap (λ gs. length (groups_from 0 gs)) c.in-Ok.ensures.ok in
     let view = ap (λ s. length (groups_from 0 s.groups)) c.self.view_is in
     omega (arith, grown, view, used_more c.self.inside.current.groups (records_of c.args.group.now), some_size c.args.group.now some)
