@@ -26,24 +26,24 @@ pub returns-in-None-header_number-clause-foreign : goal.returns-in-None-header_n
 returns-in-None-header_number-clause-foreign c = (
   λ shut. (let is = c.is_closed.ensures.1 shut in absurd (cc (is, c.if-is_closed.false))),
   λ n begins.
-    let record_len = c.read_u32-record.result in
-    let same : 14 + c.read_u32-record.result - 14 ≡ c.read_u32-record.result = omega arith in
-    c.in-None-header_number.ensures.none refl n c.args.identity.now
-    (ap (λ k. take k (drop 14 c.args.bytes.now)) same ∙ header_read c.args.bytes.now c.args.identity.now c.in-Some.len n c.in-Some.ensures.some begins record_len c.read_u32-record.type_inv c.read_u32-record.ensures),
+      let record_len = c.read_u32-record.result in
+      let same : 14 + c.read_u32-record.result - 14 ≡ c.read_u32-record.result = omega arith in
+      c.in-None-header_number.ensures.none refl n c.args.identity.now
+      (ap (λ k. take k (drop 14 c.args.bytes.now)) same ∙ header_read c.args.bytes.now c.args.identity.now c.in-Some.len n c.in-Some.ensures.some begins record_len c.read_u32-record.type_inv c.read_u32-record.ensures),
 )
 
 pub returns-then-not-is_same-clause-foreign : goal.returns-then-not-is_same-clause-foreign
 returns-then-not-is_same-clause-foreign c = (
   λ shut. (let is = c.is_closed.ensures.1 shut in absurd (cc (is, c.if-is_closed.false))),
   λ n begins.
-    let record_len = c.read_u32-record.result in
-    let same : 14 + c.read_u32-record.result - 14 ≡ c.read_u32-record.result = omega arith in
-    let there =
-    rest_whole 15 (take (14 + c.read_u32-record.result - 14) (drop 14 c.args.bytes.now))
-    ∙ ap (λ k. drop 15 (take k (drop 14 c.args.bytes.now))) same
-    ∙ ap (λ l. drop 15 l) (header_read c.args.bytes.now c.args.identity.now c.in-Some.len n c.in-Some.ensures.some begins record_len c.read_u32-record.type_inv c.read_u32-record.ensures) in
-    let is = c.is_same.ensures.1 there in
-    absurd (cc (is, c.if-not-is_same.true)),
+      let record_len = c.read_u32-record.result in
+      let same : 14 + c.read_u32-record.result - 14 ≡ c.read_u32-record.result = omega arith in
+      let there =
+      rest_whole 15 (take (14 + c.read_u32-record.result - 14) (drop 14 c.args.bytes.now))
+      ∙ ap (λ k. drop 15 (take k (drop 14 c.args.bytes.now))) same
+      ∙ ap (λ l. drop 15 l) (header_read c.args.bytes.now c.args.identity.now c.in-Some.len n c.in-Some.ensures.some begins record_len c.read_u32-record.type_inv c.read_u32-record.ensures) in
+      let is = c.is_same.ensures.1 there in
+      absurd (cc (is, c.if-not-is_same.true)),
 )
 
 pub returns-clause-file : goal.returns-clause-file
