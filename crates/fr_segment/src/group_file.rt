@@ -28,10 +28,12 @@ pub trait GroupFile: Drop {
 
     /// How many bytes the records may take, and how many they take now.
     ghost room: { Self → ℕ };
+
     ghost used: { Self → ℕ };
 
     /// How many bytes records may take that are put in their place, and how many of these the file's own header takes.
     ghost next_room: { Self → ℕ };
+
     ghost front: { Self → ℕ };
 
     /// On the way from the first file to the second, a crash at any moment, inside a call too, leaves a file whose
