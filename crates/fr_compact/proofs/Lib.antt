@@ -1,0 +1,4 @@
+mod AskLemmas
+mod ReadLemmas
+mod NodeLemmas
+mod RoomLemmas

@@ -1,0 +1,145 @@
+-- Records that lead a machine to a state, and what a crash leaves of a node.
+use Rattle.std.proofs.Common.{◌≡◌, ◌⊎◌, inl, inr, ℕ, Bool, true, false, List, [], ◌∷◌, ◌++◌, refl, sym, ap, ◌∙◌, subst, Vec}
+use Rattle.std.specs.Prelude.{Option, None, Some, fold, Result, Ok, Err, OnOk, OnErr}
+use Rattle.std.specs.declared.alloc.Global.{Global}
+use Rattle.std.proofs.lemmas.List.Sums.{fold-append}
+use Rattle.fr_base.specs.declared.node.NodeFault.{NodeFault}
+use Rattle.fr_base.specs.declared.node.NodeFault.TheVariants.{Device, Full, Failed, Memory, Broken}
+use Rattle.fr_segment.specs.Group.{records_of}
+use Rattle.fr_record_node.specs.Replay.{replayed, next_replayed}
+use Rattle.fr_record_node.specs.Node.{owed_of}
+use Rattle.fr_compact.specs.Leading.{LeadsTo}
+use Rattle.fr_compact.specs.Node.{IsNode, LeavesOwn}
+
+module _ {M : Type 0} (replay : M → List ℕ → Option M) (fresh : M) where
+  -- the records of a state, and more
+  pub replays_more : (before : List (List ℕ)) (m : M) → replayed replay (Some fresh) before ≡ Some m → (group : List (List ℕ)) (n : M) → replayed replay (Some m) group ≡ Some n → replayed replay (Some fresh) (before ++ group) ≡ Some n
+  replays_more before m replays group n goes = fold-append (next_replayed replay) (Some fresh) before group ∙ ap (λ o. fold (next_replayed replay) o group) replays ∙ goes
+
+  pub leads : (P : M → Type 0) (before : List (List ℕ)) (m : M) → replayed replay (Some fresh) before ≡ Some m → P m → (rs : List (List ℕ)) → rs ≡ before → LeadsTo replay fresh P rs
+  leads P before m replays here rs is = record { state = m; replays = ap (λ l. replayed replay (Some fresh) l) is ∙ replays; holds = here }
+
+  -- one list of records or another
+  pub leads_either : (P : M → Type 0) (a b : List (List ℕ)) (m n : M) → replayed replay (Some fresh) a ≡ Some m → P m → replayed replay (Some fresh) b ≡ Some n → P n
+      → (rs : List (List ℕ)) → (rs ≡ a) ⊎ (rs ≡ b) → LeadsTo replay fresh P rs
+  leads_either P a b m n a_leads here b_leads there rs is = elim is [
+    | inl e ↦ leads P a m a_leads here rs e
+    | inr e ↦ leads P b n b_leads there rs e
+  ]
+
+-- what a file that leaves one list or another leaves, where one is its own and the other it owes
+pub own_left : (records before owes : List (List ℕ)) (owed : Option (List (List ℕ))) → records ≡ before → owed ≡ Some owes
+    → (rs : List (List ℕ)) → (rs ≡ before) ⊎ (rs ≡ owes) → (rs ≡ records) ⊎ (owed ≡ Some rs)
+own_left records before owes owed records_is owed_is rs is = elim is [
+  | inl e ↦ inl (e ∙ sym records_is)
+  | inr e ↦ inr (owed_is ∙ ap (λ l. Some l) (sym e))
+]
+
+-- the same of a file that keeps both
+pub own_still : (records before : List (List ℕ)) (owed owed_before : Option (List (List ℕ))) → records ≡ before → owed ≡ owed_before
+    → (rs : List (List ℕ)) → (rs ≡ before) ⊎ (owed_before ≡ Some rs) → (rs ≡ records) ⊎ (owed ≡ Some rs)
+own_still records before owed owed_before records_is owed_is rs is = elim is [
+  | inl e ↦ inl (e ∙ sym records_is)
+  | inr e ↦ inr (owed_is ∙ e)
+]
+
+-- vectors that hold no record are none
+pub no_group : (group : List (Vec ℕ Global)) → records_of group ≡ [] → group ≡ []
+no_group [] e = refl
+no_group (v ∷ vs) e = absurd (cc e)
+
+pub on_err : {T E : Type 0} (r : Result T E) (P : Type 0) → P → OnErr r P
+on_err (Ok x) P p = tt
+on_err (Err e) P p = p
+
+-- one way or another
+pub ok_or_err : {T E : Type 0} (r : Result T E) (P Q : Type 0) → OnOk r P → OnErr r Q → P ⊎ Q
+ok_or_err (Ok x) P Q p q = inl p
+ok_or_err (Err e) P Q p q = inr q
+
+pub either_owed : {T : Type 0} (r : Result T NodeFault) (now ours theirs : Option (List (List ℕ))) → (r ≡ Err Device → now ≡ ours) → ((r ≡ Err Device → ⊥) → now ≡ theirs) → (now ≡ ours) ⊎ (now ≡ theirs)
+either_owed (Ok x) now ours theirs met not = inr (not (λ e. absurd (cc e)))
+either_owed (Err Device) now ours theirs met not = inl (met refl)
+either_owed (Err Full) now ours theirs met not = inr (not (λ e. absurd (cc e)))
+either_owed (Err Failed) now ours theirs met not = inr (not (λ e. absurd (cc e)))
+either_owed (Err Memory) now ours theirs met not = inr (not (λ e. absurd (cc e)))
+either_owed (Err Broken) now ours theirs met not = inr (not (λ e. absurd (cc e)))
+
+module _ {F M A : Type 0} (records : F → List (List ℕ)) (is_failed : F → Bool) (owed : F → Option (List (List ℕ))) (Throughout : (List (List ℕ) → Type 0) → F → F → Type 0) (fresh : M → M) (replay : M → List ℕ → Option M) (written : M → A → List (List ℕ)) (IsAsk : A → Type 0) (IsSound : M → Type 0) (flies : A → Bool) where
+  abbrev pub IsNodeHere : Option A → F → M → Type 0
+  IsNodeHere held file m = IsNode records is_failed owed Throughout fresh replay written IsAsk IsSound flies held file m
+
+  -- a node that holds no asks
+  pub idle_node : (held : Option A) (file : F) (m : M) → held ≡ None → replayed replay (Some (fresh m)) (records file) ≡ Some m → IsSound m → LeavesOwn records owed Throughout file
+      → ((rs : List (List ℕ)) → owed file ≡ Some rs → replayed replay (Some (fresh m)) rs ≡ Some m) → IsNodeHere held file m
+  idle_node held file m none replays sound leaves alone = record {
+    replays = replays;
+    sound = sound;
+    leaves = leaves;
+    idle = λ _. none;
+    asked = λ ask is. absurd (cc (none, is));
+    alone = λ _. alone;
+    resting = λ ask is. absurd (cc (none, is));
+    flying = λ ask is. absurd (cc (none, is));
+  }
+
+  -- one whose file owes nothing either
+  pub free_node : (held : Option A) (file : F) (m : M) → held ≡ None → replayed replay (Some (fresh m)) (records file) ≡ Some m → IsSound m → LeavesOwn records owed Throughout file → owed file ≡ None → IsNodeHere held file m
+  free_node held file m none replays sound leaves free = idle_node held file m none replays sound leaves (λ rs is. absurd (cc (free, is)))
+
+  -- a node whose device failed while asks were served
+  pub failed_node : (ask : A) (file : F) (m : M) → IsAsk ask → is_failed file ≡ true → replayed replay (Some (fresh m)) (records file) ≡ Some m → IsSound m → LeavesOwn records owed Throughout file
+      → (flies ask ≡ false → (rs : List (List ℕ)) → owed file ≡ Some rs → replayed replay (Some (fresh m)) rs ≡ Some m)
+      → (flies ask ≡ true → (rs : List (List ℕ)) → owed file ≡ Some rs → rs ≡ records file ++ written m ask)
+      → IsNodeHere (Some ask) file m
+  failed_node ask file m asks fails replays sound leaves resting flying = record {
+    replays = replays;
+    sound = sound;
+    leaves = leaves;
+    idle = λ works. absurd (cc (fails, works));
+    asked = λ a is. let e : a ≡ ask = cc is in subst IsAsk (sym e) asks;
+    alone = λ none. absurd (cc none);
+    resting = λ a is. let e : a ≡ ask = cc is in λ rests. resting (sym (ap flies e) ∙ rests);
+    flying = λ a is. let e : a ≡ ask = cc is in λ flies_a rs owes. flying (sym (ap flies e) ∙ flies_a) rs owes ∙ ap (λ x. records file ++ written m x) (sym e);
+  }
+
+  -- a node that could not be opened again
+  module _ (held : Option A) (file : F) (m : M) (node : IsNodeHere held file m) where
+    pub still_node : (last : F) (n : M) → n ≡ m → records last ≡ records file → owed last ≡ owed file → (is_failed last ≡ false → is_failed file ≡ false) → IsSound n → LeavesOwn records owed Throughout last → IsNodeHere held last n
+    still_node last n n_is records_is owed_is works sound leaves = record {
+      replays = replays_as (records last) records_is node.replays;
+      sound = sound;
+      leaves = leaves;
+      idle = λ w. node.idle (works w);
+      asked = node.asked;
+      alone = λ none rs is. as_before rs (node.alone none rs (sym owed_is ∙ is));
+      resting = λ ask asks rests rs is. as_before rs (node.resting ask asks rests rs (sym owed_is ∙ is));
+      flying = λ ask asks flies_ask rs is. node.flying ask asks flies_ask rs (sym owed_is ∙ is) ∙ ap (λ x. records file ++ written x ask) (sym n_is) ∙ ap (λ l. l ++ written n ask) (sym records_is);
+    }
+      where
+        as_before : (rs : List (List ℕ)) → replayed replay (Some (fresh m)) rs ≡ Some m → replayed replay (Some (fresh n)) rs ≡ Some n
+        as_before rs replays = subst (λ x. replayed replay (Some (fresh x)) rs ≡ Some x) (sym n_is) replays
+
+        replays_as : (rs : List (List ℕ)) → rs ≡ records file → replayed replay (Some (fresh m)) (records file) ≡ Some m → replayed replay (Some (fresh n)) rs ≡ Some n
+        replays_as rs is replays = as_before rs (ap (λ l. replayed replay (Some (fresh m)) l) is ∙ replays)
+
+    -- what a crash leaves of it leads to its state, or to where the asks lead that are held
+    pub own_leads : (after : M → A → M) → ((ask : A) → held ≡ Some ask → replayed replay (Some m) (written m ask) ≡ Some (after m ask))
+        → (rs : List (List ℕ)) → (rs ≡ records file) ⊎ (owed file ≡ Some rs) → LeadsTo replay (fresh m) (λ x. (x ≡ m) ⊎ (owed_of after m held ≡ Some x)) rs
+    own_leads after goes rs is = elim is [
+      | inl e ↦ leads replay (fresh m) _ (records file) m node.replays (inl refl) rs e
+      | inr owes ↦ by_held held refl owes
+    ]
+      where
+        here : replayed replay (Some (fresh m)) rs ≡ Some m → LeadsTo replay (fresh m) (λ x. (x ≡ m) ⊎ (owed_of after m held ≡ Some x)) rs
+        here replays = leads replay (fresh m) _ rs m replays (inl refl) rs refl
+
+        by_flight : (ask : A) → held ≡ Some ask → owed file ≡ Some rs → (b : Bool) → flies ask ≡ b → LeadsTo replay (fresh m) (λ x. (x ≡ m) ⊎ (owed_of after m held ≡ Some x)) rs
+        by_flight ask asks owes false rests = here (node.resting ask asks rests rs owes)
+        by_flight ask asks owes true flies_ask =
+            leads replay (fresh m) _ (records file ++ written m ask) (after m ask) (replays_more replay (fresh m) (records file) m node.replays (written m ask) (after m ask) (goes ask asks)) (inr (ap (owed_of after m) asks)) rs
+            (node.flying ask asks flies_ask rs owes)
+
+        by_held : (h : Option A) → held ≡ h → owed file ≡ Some rs → LeadsTo replay (fresh m) (λ x. (x ≡ m) ⊎ (owed_of after m held ≡ Some x)) rs
+        by_held None none owes = here (node.alone none rs owes)
+        by_held (Some ask) asks owes = by_flight ask asks owes (flies ask) refl

@@ -1,0 +1,2 @@
+-- Half of the next room.
+use Rattle.std.proofs.Common.{ℕ}
