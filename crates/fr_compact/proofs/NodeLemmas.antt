@@ -1,10 +1,13 @@
 -- Records that lead a machine to a state, and what a crash leaves of a node.
-use Rattle.std.proofs.Common.{◌≡◌, ◌⊎◌, inl, inr, ℕ, Bool, true, false, List, [], ◌∷◌, ◌++◌, refl, sym, ap, ◌∙◌, subst, Vec}
-use Rattle.std.specs.Prelude.{Option, None, Some, fold, Result, Ok, Err, OnOk, OnErr}
+use Rattle.std.proofs.Common.{◌≡◌, ◌⊎◌, inl, inr, ℕ, Bool, true, false, List, [], ◌∷◌, ◌++◌, refl, sym, ap, ◌∙◌, subst, Vec, ◌<◌, ◌≤◌, length, arith, length-append}
+use Rattle.std.specs.Prelude.{Option, None, Some, fold, Result, Ok, Err, OnOk, OnErr, ◌||◌}
 use Rattle.std.specs.declared.alloc.Global.{Global}
+use Rattle.std.proofs.lemmas.List.{append-nil}
 use Rattle.std.proofs.lemmas.List.Sums.{fold-append}
 use Rattle.fr_base.specs.declared.node.NodeFault.{NodeFault}
 use Rattle.fr_base.specs.declared.node.NodeFault.TheVariants.{Device, Full, Failed, Memory, Broken}
+use Rattle.fr_record.specs.declared.fault.RecordFault.{RecordFault}
+use Rattle.fr_record.specs.declared.fault.RecordFault.TheVariants as record_fault
 use Rattle.fr_segment.specs.Group.{records_of}
 use Rattle.fr_record_node.specs.Replay.{replayed, next_replayed}
 use Rattle.fr_record_node.specs.Node.{owed_of}
@@ -58,12 +61,12 @@ ok_or_err (Ok x) P Q p q = inl p
 ok_or_err (Err e) P Q p q = inr q
 
 pub either_owed : {T : Type 0} (r : Result T NodeFault) (now ours theirs : Option (List (List ℕ))) → (r ≡ Err Device → now ≡ ours) → ((r ≡ Err Device → ⊥) → now ≡ theirs) → (now ≡ ours) ⊎ (now ≡ theirs)
-either_owed (Ok x) now ours theirs met not = inr (not (λ e. absurd (cc e)))
-either_owed (Err Device) now ours theirs met not = inl (met refl)
-either_owed (Err Full) now ours theirs met not = inr (not (λ e. absurd (cc e)))
-either_owed (Err Failed) now ours theirs met not = inr (not (λ e. absurd (cc e)))
-either_owed (Err Memory) now ours theirs met not = inr (not (λ e. absurd (cc e)))
-either_owed (Err Broken) now ours theirs met not = inr (not (λ e. absurd (cc e)))
+either_owed (Ok x) now ours theirs ours_is theirs_is = inr (theirs_is (λ e. absurd (cc e)))
+either_owed (Err Device) now ours theirs ours_is theirs_is = inl (ours_is refl)
+either_owed (Err Full) now ours theirs ours_is theirs_is = inr (theirs_is (λ e. absurd (cc e)))
+either_owed (Err Failed) now ours theirs ours_is theirs_is = inr (theirs_is (λ e. absurd (cc e)))
+either_owed (Err Memory) now ours theirs ours_is theirs_is = inr (theirs_is (λ e. absurd (cc e)))
+either_owed (Err Broken) now ours theirs ours_is theirs_is = inr (theirs_is (λ e. absurd (cc e)))
 
 module _ {F M A : Type 0} (records : F → List (List ℕ)) (is_failed : F → Bool) (owed : F → Option (List (List ℕ))) (Throughout : (List (List ℕ) → Type 0) → F → F → Type 0) (fresh : M → M) (replay : M → List ℕ → Option M) (written : M → A → List (List ℕ)) (IsAsk : A → Type 0) (IsSound : M → Type 0) (flies : A → Bool) where
   abbrev pub IsNodeHere : Option A → F → M → Type 0
@@ -143,3 +146,89 @@ module _ {F M A : Type 0} (records : F → List (List ℕ)) (is_failed : F → B
         by_held : (h : Option A) → held ≡ h → owed file ≡ Some rs → LeadsTo replay (fresh m) (λ x. (x ≡ m) ⊎ (owed_of after m held ≡ Some x)) rs
         by_held None none owes = here (node.alone none rs owes)
         by_held (Some ask) asks owes = by_flight ask asks owes (flies ask) refl
+
+-- what a crash leaves of a file, before and after a call of it
+module _ {F : Type 0} (records : F → List (List ℕ)) (owed : F → Option (List (List ℕ))) (Throughout : (List (List ℕ) → Type 0) → F → F → Type 0)
+    (weaker : (P Q : List (List ℕ) → Type 0) (f g : F) → ((rs : List (List ℕ)) → P rs → Q rs) → Throughout P f g → Throughout Q f g) where
+  abbrev Own : F → List (List ℕ) → Type 0
+  Own file rs = (rs ≡ records file) ⊎ (owed file ≡ Some rs)
+
+  pub left_kept : (file : F) → Throughout (λ rs. rs ≡ records file) file file → LeavesOwn records owed Throughout file
+  left_kept file kept = weaker (λ rs. rs ≡ records file) (Own file) file file (λ rs is. inl is) kept
+
+  -- its records lead to a state
+  pub kept_leads : {M : Type 0} (replay : M → List ℕ → Option M) (fresh m : M) (P : M → Type 0) (file : F) → replayed replay (Some fresh) (records file) ≡ Some m → P m
+      → Throughout (λ rs. rs ≡ records file) file file → Throughout (LeadsTo replay fresh P) file file
+  kept_leads replay fresh m P file replays here kept = weaker (λ rs. rs ≡ records file) (LeadsTo replay fresh P) file file (leads replay fresh P (records file) m replays here) kept
+
+  -- and other records lead to another
+  pub moved_leads : {M : Type 0} (replay : M → List ℕ → Option M) (fresh m n : M) (P : M → Type 0) (old new : F) (other : List (List ℕ)) → replayed replay (Some fresh) (records old) ≡ Some m → P m → replayed replay (Some fresh) other ≡ Some n → P n
+      → Throughout (λ rs. (rs ≡ records old) ⊎ (rs ≡ other)) old new → Throughout (LeadsTo replay fresh P) old new
+  moved_leads replay fresh m n P old new other replays here other_replays there moments =
+      weaker (λ rs. (rs ≡ records old) ⊎ (rs ≡ other)) (LeadsTo replay fresh P) old new (leads_either replay fresh P (records old) other m n replays here other_replays there) moments
+
+  module _ (ends : (P : List (List ℕ) → Type 0) (f g : F) → Throughout P f g → Throughout P g g) (old new : F) (same : records new ≡ records old) where
+    -- its device failed on the way to other records
+    pub left_met : (other : List (List ℕ)) → owed new ≡ Some other → Throughout (λ rs. (rs ≡ records old) ⊎ (rs ≡ other)) old new → LeavesOwn records owed Throughout new
+    left_met other owes moments =
+        weaker (λ rs. (rs ≡ records old) ⊎ (rs ≡ other)) (Own new) new new (own_left (records new) (records old) other (owed new) same owes)
+        (ends (λ rs. (rs ≡ records old) ⊎ (rs ≡ other)) old new moments)
+
+    -- the call was refused
+    pub left_refused : (fault : RecordFault) → (fault ≡ record_fault.Failed → ⊥) → (fault ≡ record_fault.Broken → ⊥) → LeavesOwn records owed Throughout old
+        → ((fault ≡ record_fault.Full) ⊎ (fault ≡ record_fault.Memory) → new ≡ old) → (other : List (List ℕ)) → (fault ≡ record_fault.Device → owed new ≡ Some other)
+        → Throughout (λ rs. (rs ≡ records old) ⊎ (rs ≡ other)) old new → LeavesOwn records owed Throughout new
+    left_refused record_fault.Device works whole before untouched other owes moments = left_met other (owes refl) moments
+    left_refused record_fault.Full works whole before untouched other owes moments = subst (LeavesOwn records owed Throughout) (sym (untouched (inl refl))) before
+    left_refused record_fault.Failed works whole before untouched other owes moments = absurd (works refl)
+    left_refused record_fault.Memory works whole before untouched other owes moments = subst (LeavesOwn records owed Throughout) (sym (untouched (inr refl))) before
+    left_refused record_fault.Broken works whole before untouched other owes moments = absurd (whole refl)
+
+    -- it was opened again in vain
+    pub left_again : owed new ≡ owed old → Throughout (Own old) old new → LeavesOwn records owed Throughout new
+    left_again owes moments = weaker (Own old) (Own new) new new (own_still (records new) (records old) (owed new) (owed old) same owes) (ends (Own old) old new moments)
+
+-- what a file with the records of asks in flight is found to hold
+module _ (before group now : List (List ℕ)) (owed : Option (List (List ℕ))) (flying : (rs : List (List ℕ)) → owed ≡ Some rs → rs ≡ before ++ group) (left : (now ≡ before) ⊎ (owed ≡ Some now)) where
+  pub found_more : length before < length now → now ≡ before ++ group
+  found_more more = elim left [
+    | inl same ↦ (let e = ap length same in absurd (omega (arith, e, more)))
+    | inr owes ↦ flying now owes
+  ]
+
+  pub found_same : length now ≤ length before → now ≡ before
+  found_same less = elim left [
+    | inl same ↦ same
+    | inr owes ↦ shorter group (flying now owes)
+  ]
+    where
+      shorter : (g : List (List ℕ)) → now ≡ before ++ g → now ≡ before
+      shorter [] whole = whole ∙ append-nil before
+      shorter (r ∷ rs) whole = let e = ap length whole in absurd (omega (arith, e, less, length-append before (r ∷ rs)))
+
+-- what a file without them is found to hold
+module _ {F M : Type 0} (records : F → List (List ℕ)) (owed : F → Option (List (List ℕ))) (replay : M → List ℕ → Option M) (fresh m : M) (old new : F)
+    (replays : replayed replay (Some fresh) (records old) ≡ Some m) (alone : (rs : List (List ℕ)) → owed old ≡ Some rs → replayed replay (Some fresh) rs ≡ Some m) where
+  found_left : (records new ≡ records old) ⊎ (owed old ≡ Some (records new)) → replayed replay (Some fresh) (records new) ≡ Some m
+  found_left left = elim left [
+    | inl same ↦ ap (λ l. replayed replay (Some fresh) l) same ∙ replays
+    | inr owes ↦ alone (records new) owes
+  ]
+
+  pub found_idle : {T E : Type 0} (r : Result T E) → OnOk r ((records new ≡ records old) ⊎ (owed old ≡ Some (records new))) → OnErr r (records new ≡ records old) → replayed replay (Some fresh) (records new) ≡ Some m
+  found_idle (Ok x) left same = found_left left
+  found_idle (Err e) left same = found_left (inl same)
+
+  pub alone_still : {T E : Type 0} (r : Result T E) → OnOk r (owed new ≡ None) → OnErr r (owed new ≡ owed old) → (rs : List (List ℕ)) → owed new ≡ Some rs → replayed replay (Some fresh) rs ≡ Some m
+  alone_still (Ok x) free still rs owes = absurd (cc (free, owes))
+  alone_still (Err e) free still rs owes = alone rs (sym still ∙ owes)
+
+-- what follows from a fact at Ok
+pub on_ok : {T E : Type 0} (r : Result T E) (P Q : Type 0) → (P → Q) → OnOk r P → OnOk r Q
+on_ok (Ok x) P Q f p = f p
+on_ok (Err e) P Q f p = p
+
+-- a file that works did not fail before
+pub worked : (now before met : Bool) → now ≡ (before || met) → now ≡ false → before ≡ false
+worked now false met is works = refl
+worked now true met is works = absurd (cc (is, works))

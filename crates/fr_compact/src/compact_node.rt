@@ -78,7 +78,8 @@ where
     }
 
     /// The node whose file this is. The machine that is handed over was never asked; it takes the changes of the file.
-    /// `Broken` if no asks of such a machine write its records. A refusal drops the file; its records stay (`gone`).
+    /// `Broken` if no asks of such a machine write its records. A refusal drops the file. Its records stay: calls led it to
+    /// where a crash leaves them, and no others (`gone`).
     pub fn read(alloc: Global, file: F, machine: M) -> Result<Self, NodeFault>
         requires fresh { M.fresh machine ≡ machine }
         requires sound { M.IsSound machine }
@@ -92,11 +93,10 @@ where
             × (F.next_room node.file ≡ F.next_room file) × (F.front node.file ≡ F.front file)) }
         ensures failures { IfOk result (λ node. F.failures node.file ≡ F.failures file) }
         ensures any_moment { IfOk result (λ node. F.Throughout (λ rs. rs ≡ F.records file) file node.file) }
-        ensures gone { OnErr result ((last : F) × F.Throughout (λ rs. rs ≡ F.records file) file last) }
+        ensures gone { OnErr result ((last : F) × F.Throughout (λ rs. rs ≡ F.records file) file last
+            × ((result ≡ Err NodeFault.Device) → F.failures last ≡ min (F.failures file + 1) (2 ^ 64 - 1))) }
         ensures kept { IfOk result (λ node. F.Throughout (LeadsTo M.replay (M.fresh node.machine) (λ x. x
             ≡ node.machine)) node.file node.file) }
-        ensures device { (result ≡ Err NodeFault.Device)
-            → (last : F) × (F.failures last ≡ min (F.failures file + 1) (2 ^ 64 - 1)) }
         ensures never_full { result ≢ Err NodeFault.Full }
         ensures never_failed { result ≢ Err NodeFault.Failed }
     {

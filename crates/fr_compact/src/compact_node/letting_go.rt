@@ -69,18 +69,18 @@ pub(super) fn make_room<M: Compact, F: GroupFile>(
     ensures any_moment { F.Throughout (λ rs. (rs ≡ F.records file.old) ⊎ (rs ≡ M.spelled machine.now)) file.old file.new }
 {
     let _works = file.is_failed();
-    let Ok(group) = machine.spell(alloc) else {
+    let Ok(state) = machine.spell(alloc) else {
         return Err(NodeFault::Memory);
     };
     let sizes = file.sizes();
-    let taken = group_len(group.as_slice())
+    let taken = group_len(state.as_slice())
         .saturating_add(sizes.front)
         .saturating_add(24);
     // At most half, or a state that nearly fills the file is written anew at each ask (invariant 4).
     if taken > sizes.next_room / 2 {
         return Err(NodeFault::Full);
     }
-    match file.replace(alloc, group.as_slice()) {
+    match file.replace(alloc, state.as_slice()) {
         Ok(()) => Ok(()),
         Err(fault) => Err(node_fault(fault)),
     }

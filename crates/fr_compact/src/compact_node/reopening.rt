@@ -26,6 +26,7 @@ pub(super) fn reopen_idle<F: GroupFile>(file: &mut F, alloc: Global) -> Result<R
     ensures device { (result ≡ Err NodeFault.Device) → F.failures file.new ≡ min (F.failures file.old + 1) (2 ^ 64 - 1) }
     ensures trouble { IfErr result (λ fault. IsTrue (is_trouble fault)) }
     ensures never_full { result ≢ Err NodeFault.Full }
+    ensures leaves { LeavesOwn F.records F.owed F.Throughout file.new }
     ensures any_moment { F.Throughout (λ rs. (rs ≡ F.records file.old) ⊎ (F.owed file.old ≡ Some rs)) file.old file.new }
     ensures kept { OnOk result (F.Throughout (λ rs. rs ≡ F.records file.new) file.new file.new) }
 {
@@ -67,6 +68,7 @@ where
     ensures device { (result ≡ Err NodeFault.Device) → F.failures file.new ≡ min (F.failures file.old + 1) (2 ^ 64 - 1) }
     ensures trouble { IfErr result (λ fault. IsTrue (is_trouble fault)) }
     ensures never_full { result ≢ Err NodeFault.Full }
+    ensures leaves { LeavesOwn F.records F.owed F.Throughout file.new }
     ensures any_moment { F.Throughout (λ rs. (rs ≡ F.records file.old) ⊎ (F.owed file.old ≡ Some rs)) file.old file.new }
     ensures kept { OnOk result (F.Throughout (λ rs. rs ≡ F.records file.new) file.new file.new) }
 {

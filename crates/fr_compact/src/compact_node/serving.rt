@@ -5,7 +5,7 @@ ghost use Rattle.fr_record_node.specs.Several.{after_all, told_all, written_all}
 ghost use Rattle.fr_record_node.specs.Replay.{replayed};
 ghost use Rattle.fr_record_node.specs.Node.{is_trouble};
 ghost use Rattle.fr_compact.specs.Leading.{LeadsTo};
-ghost use Rattle.fr_compact.specs.Room.{IsFullFor, HasNoRoom};
+ghost use Rattle.fr_compact.specs.Room.{IsFullFor, IsNoHelp, HasNoRoom};
 ghost use Rattle.fr_compact.specs.Node.{met_fault, LeavesOwn};
 
 use crate::compact::Compact;
@@ -77,8 +77,62 @@ where
     }
 }
 
-/// Takes asks one after another, and puts their records into a file as one group. If they lack room the file lets go,
-/// with the machine as it was before them (invariant 2), and they are taken again.
+/// Lets go, with the machine as it is before the asks (invariant 2), and then takes them and puts their records behind
+/// what stays.
+fn put_behind_state<M: Compact, F: GroupFile>(
+    file: &mut F,
+    machine: &mut M,
+    alloc: Global,
+    asks: &[M::Ask],
+    spare: usize,
+) -> Result<Vec<M::Tell>, Unserved>
+where
+    M::Ask: Drop,
+    M::Tell: Drop,
+    requires works { F.is_failed file.old ≡ false }
+    requires replays { replayed M.replay (Some (M.fresh machine.old)) (F.records file.old) ≡ Some machine.old }
+    requires sound { M.IsSound machine.old }
+    ensures told { IfOk result (λ tells. tells.items ≡ told_all M.after M.told machine.old asks.now) }
+    ensures after { OnOk result (machine.new ≡ after_all M.after machine.old asks.now) }
+    ensures replays { replayed M.replay (Some (M.fresh machine.new)) (F.records file.new) ≡ Some machine.new }
+    ensures sound { M.IsSound machine.new }
+    ensures kept { OnOk result (F.Throughout (λ rs. rs ≡ F.records file.new) file.new file.new) }
+    ensures err { OnErr result (machine.new ≡ machine.old) }
+    ensures fails { F.is_failed file.new ≡ met_fault result }
+    ensures device { IfErr result (λ unserved. (unserved.fault ≡ NodeFault.Device)
+        → F.failures file.new ≡ min (F.failures file.old + 1) (2 ^ 64 - 1)) }
+    ensures full { IfErr result (λ unserved. (unserved.fault ≡ NodeFault.Full)
+        → IsNoHelp F.room F.used F.next_room F.front file.old (M.spelled machine.old)
+        (written_all M.after M.written machine.old asks.now) spare) }
+    ensures trouble { IfErr result (λ unserved. IsTrue (is_trouble unserved.fault)) }
+    ensures resting { IfErr result (λ unserved. (unserved.fault ≡ NodeFault.Device) → unserved.is_in_flight ≡ false
+        → F.owed file.new ≡ Some (M.spelled machine.old)) }
+    ensures flying { IfErr result (λ unserved. (unserved.fault ≡ NodeFault.Device) → unserved.is_in_flight ≡ true
+        → F.owed file.new ≡ Some (F.records file.new ++ written_all M.after M.written machine.old asks.now)) }
+    ensures owes_still { met_fault result ≡ false → F.owed file.new ≡ F.owed file.old }
+    ensures leaves { LeavesOwn F.records F.owed F.Throughout file.new }
+    ensures any_moment { F.Throughout (LeadsTo M.replay (M.fresh machine.old) (λ x. (x ≡ machine.old)
+        ⊎ (x ≡ after_all M.after machine.old asks.now))) file.old file.new }
+{
+    match make_room(file, machine, alloc) {
+        Ok(()) => {}
+        Err(fault) => {
+            return Err(Unserved {
+                fault,
+                is_in_flight: false,
+            });
+        }
+    }
+    match put_all(file, machine, alloc, asks, spare) {
+        Ok(tells) => Ok(tells),
+        Err(fault) => Err(Unserved {
+            fault,
+            is_in_flight: true,
+        }),
+    }
+}
+
+/// Takes asks one after another, and puts their records into a file as one group. If they lack room the file lets go.
 pub(super) fn serve_group<M: Compact, F: GroupFile>(
     file: &mut F,
     machine: &mut M,
@@ -117,26 +171,8 @@ where
         ⊎ (x ≡ after_all M.after machine.old asks.now))) file.old file.new }
 {
     match put_all(file, machine, alloc, asks, spare) {
-        Ok(tells) => return Ok(tells),
-        Err(NodeFault::Full) => {}
-        Err(fault) => {
-            return Err(Unserved {
-                fault,
-                is_in_flight: true,
-            });
-        }
-    }
-    match make_room(file, machine, alloc) {
-        Ok(()) => {}
-        Err(fault) => {
-            return Err(Unserved {
-                fault,
-                is_in_flight: false,
-            });
-        }
-    }
-    match put_all(file, machine, alloc, asks, spare) {
         Ok(tells) => Ok(tells),
+        Err(NodeFault::Full) => put_behind_state(file, machine, alloc, asks, spare),
         Err(fault) => Err(Unserved {
             fault,
             is_in_flight: true,
