@@ -1,4 +1,5 @@
 use Rattle.std.proofs.Common.{◌≡◌, refl, Some, None, Err, ap, ◌∙◌}
+use Rattle.fr_base.specs.declared.node.NodeFault.TheVariants as node
 use Rattle.fr_record_node.specs.Replay.{replayed}
 use Rattle.fr_compact.specs.Node.{written_held, AreAsks, is_in_flight}
 use Rattle.fr_compact.proofs.NodeLemmas.{free_node, kept_leads, left_kept}
@@ -24,4 +25,4 @@ returns-clause-kept g c =
     kept_leads g.F.GroupFile.records g.F.GroupFile.owed g.F.GroupFile.Throughout g.F.GroupFile.weaker g.M.Recorded.replay (g.M.Recorded.fresh m) m (λ x. x ≡ m) file replays refl (c.is_failed-works.ensures.kept c.in-Ok.ensures.works)
 
 pub returns-in-Err-clause-gone : goal.returns-in-Err-clause-gone
-returns-in-Err-clause-gone g c = (c.read_all.new.file, c.read_all.ensures.any_moment, λ e. c.read_all.ensures.device (c.in-Err.is ∙ e))
+returns-in-Err-clause-gone g c = (c.read_all.new.file, c.read_all.ensures.any_moment, λ e. let told : c.in-Err.fault ≡ node.Device = cc e in c.read_all.ensures.device (c.in-Err.is ∙ ap (λ f. Err f) told))

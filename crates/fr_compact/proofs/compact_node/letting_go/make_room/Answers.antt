@@ -29,8 +29,8 @@ returns-in-Ok-replace-clause-any_moment g c =
     let is : records_of c.as_slice-2.result.now ≡ g.M.Compact.spelled c.args.machine.now = ap records_of c.as_slice-2.ensures.value ∙ c.in-Ok.ensures.records in
     subst (λ (l : List (List ℕ)). g.F.GroupFile.Throughout (λ rs. (rs ≡ g.F.GroupFile.records c.args.file.now) ⊎ (rs ≡ l)) c.args.file.now c.replace.new.self) is (c.replace.ensures.any_moment c.requires.works)
 
-pub returns-in-Err-clause-leaves : goal.returns-in-Err-clause-leaves
-returns-in-Err-clause-leaves g c =
+pub returns-clause-leaves : goal.returns-clause-leaves
+returns-clause-leaves g c =
     let failed : c.replace.result ≡ Err record_fault.Failed → ⊥ = λ e. let fails = c.replace.ensures.failed.0 e in cc (fails, c.requires.works) in
     left_refused g.F.GroupFile.records g.F.GroupFile.owed g.F.GroupFile.Throughout g.F.GroupFile.weaker g.F.GroupFile.ends c.args.file.now c.replace.new.self c.in-Err.ensures.err c.in-Err.fault
     (λ e. failed (c.in-Err.is ∙ ap (λ f. Err f) e)) (λ e. c.replace.ensures.never_broken (c.in-Err.is ∙ ap (λ f. Err f) e))
@@ -38,7 +38,7 @@ returns-in-Err-clause-leaves g c =
     (λ e. c.replace.ensures.untouched (elim e [ inl x ↦ inl (c.in-Err.is ∙ ap (λ f. Err f) x) | inr x ↦ inr (c.in-Err.is ∙ ap (λ f. Err f) x) ]))
     (records_of c.as_slice-2.result.now) (λ e. c.replace.ensures.owes (c.in-Err.is ∙ ap (λ f. Err f) e)) (c.replace.ensures.any_moment c.requires.works)
 
-pub returns-in-Err-clause-any_moment : goal.returns-in-Err-clause-any_moment
-returns-in-Err-clause-any_moment g c =
+pub returns-clause-any_moment : goal.returns-clause-any_moment
+returns-clause-any_moment g c =
     let is : records_of c.as_slice-2.result.now ≡ g.M.Compact.spelled c.args.machine.now = ap records_of c.as_slice-2.ensures.value ∙ c.in-Ok.ensures.records in
     subst (λ (l : List (List ℕ)). g.F.GroupFile.Throughout (λ rs. (rs ≡ g.F.GroupFile.records c.args.file.now) ⊎ (rs ≡ l)) c.args.file.now c.replace.new.self) is (c.replace.ensures.any_moment c.requires.works)

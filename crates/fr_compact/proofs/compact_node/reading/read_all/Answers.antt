@@ -10,8 +10,8 @@ loop-i-init g c = record {
   sound = c.requires.sound;
   same = refl;
   failures = refl;
-  sizes = (refl, (refl, (refl, refl)));
-  always = c.len.ensures.kept c.requires.works;
+  sizes = (refl, refl, refl, refl);
+  always = c.len-i-end.ensures.kept c.requires.works;
   end = search rules;
   so_far = search rules;
 }
