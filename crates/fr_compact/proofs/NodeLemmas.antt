@@ -1,6 +1,6 @@
 -- Records that lead a machine to a state, and what a crash leaves of a node.
 use Rattle.std.proofs.Common.{◌≡◌, ◌⊎◌, inl, inr, ℕ, Bool, true, false, List, [], ◌∷◌, ◌++◌, refl, sym, ap, ◌∙◌, subst, Vec, ◌<◌, ◌≤◌, length, arith, length-append}
-use Rattle.std.specs.Prelude.{Option, None, Some, fold, Result, Ok, Err, OnOk, OnErr, ◌||◌}
+use Rattle.std.specs.Prelude.{Option, None, Some, fold, Result, Ok, Err, OnOk, OnErr, IfErr, ◌||◌}
 use Rattle.std.specs.declared.alloc.Global.{Global}
 use Rattle.std.proofs.lemmas.List.{append-nil}
 use Rattle.std.proofs.lemmas.List.Sums.{fold-append}
@@ -232,3 +232,12 @@ on_ok (Err e) P Q f p = p
 pub worked : (now before met : Bool) → now ≡ (before || met) → now ≡ false → before ≡ false
 worked now false met is works = refl
 worked now true met is works = absurd (cc (is, works))
+
+-- what follows from a fact at Err
+pub on_if_err : {T E : Type 0} (r : Result T E) (P Q : E → Type 0) → ((e : E) → P e → Q e) → IfErr r P → IfErr r Q
+on_if_err (Ok x) P Q f p = tt
+on_if_err (Err e) P Q f p = f e p
+
+pub at_err : {T E : Type 0} (r : Result T E) (P : E → Type 0) → ((e : E) → P e) → IfErr r P
+at_err (Ok x) P f = tt
+at_err (Err e) P f = f e
