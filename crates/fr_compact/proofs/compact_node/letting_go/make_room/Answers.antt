@@ -12,12 +12,12 @@ pub returns-in_default-clause-any_moment : goal.returns-in_default-clause-any_mo
 returns-in_default-clause-any_moment g c =
     g.F.GroupFile.weaker (λ rs. rs ≡ g.F.GroupFile.records c.args.file.now) (λ rs. (rs ≡ g.F.GroupFile.records c.args.file.now) ⊎ (rs ≡ g.M.Compact.spelled c.args.machine.now)) c.args.file.now c.args.file.now (λ rs is. inl is) (c.is_failed-works.ensures.kept c.requires.works)
 
-pub returns-then-taken-half-clause-leaves : goal.returns-then-taken-half-clause-leaves
-returns-then-taken-half-clause-leaves g c =
+pub returns-then-taken-sizes-clause-leaves : goal.returns-then-taken-sizes-clause-leaves
+returns-then-taken-sizes-clause-leaves g c =
     left_kept g.F.GroupFile.records g.F.GroupFile.owed g.F.GroupFile.Throughout g.F.GroupFile.weaker c.args.file.now (c.is_failed-works.ensures.kept c.requires.works)
 
-pub returns-then-taken-half-clause-any_moment : goal.returns-then-taken-half-clause-any_moment
-returns-then-taken-half-clause-any_moment g c =
+pub returns-then-taken-sizes-clause-any_moment : goal.returns-then-taken-sizes-clause-any_moment
+returns-then-taken-sizes-clause-any_moment g c =
     g.F.GroupFile.weaker (λ rs. rs ≡ g.F.GroupFile.records c.args.file.now) (λ rs. (rs ≡ g.F.GroupFile.records c.args.file.now) ⊎ (rs ≡ g.M.Compact.spelled c.args.machine.now)) c.args.file.now c.args.file.now (λ rs is. inl is) (c.is_failed-works.ensures.kept c.requires.works)
 
 pub returns-in-Ok-replace-clause-leaves : goal.returns-in-Ok-replace-clause-leaves
