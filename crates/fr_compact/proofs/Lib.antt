@@ -1,4 +1,3 @@
 mod AskLemmas
 mod ReadLemmas
 mod NodeLemmas
-mod RoomLemmas

@@ -5,7 +5,7 @@ use Rattle.fr_compact.proofs.AskLemmas.{all_sound, all_replay, all_fresh}
 use Rattle.fr_compact.proofs.NodeLemmas.{replays_more, found_more, found_same, found_idle, left_kept, left_again}
 use Rattle.fr_compact.proofs.compact_node.reopening.reopen_held.Goals as goal
 
-pub returns-then-not-held-clause-replays : goal.returns-then-is_in_flight-clause-replays
+pub returns-then-not-held-clause-replays : goal.returns-then-not-held-clause-replays
 returns-then-not-held-clause-replays g c =
     let rests : c.args.held.now.is_in_flight ≡ false = search rules in
     found_idle g.F.GroupFile.records g.F.GroupFile.owed g.M.Recorded.replay (g.M.Recorded.fresh c.args.machine.now) c.args.machine.now c.args.file.now c.reopen_idle.new.file c.requires.replays (c.requires.resting rests) c.reopen_idle.result c.reopen_idle.ensures.left c.reopen_idle.ensures.err

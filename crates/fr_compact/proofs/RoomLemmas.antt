@@ -1,2 +1,0 @@
--- Half of the next room.
-use Rattle.std.proofs.Common.{ℕ}
