@@ -26,7 +26,8 @@ pub(super) fn read_all<M: Recorded, F: GroupFile>(
     ensures never_failed { result ≢ Err NodeFault.Failed }
     ensures sound { M.IsSound machine.new }
     ensures same { M.fresh machine.new ≡ M.fresh machine.old }
-    ensures sizes { (F.room file.new ≡ F.room file.old) × (F.used file.new ≡ F.used file.old) × (F.next_room file.new ≡ F.next_room file.old) × (F.front file.new ≡ F.front file.old) }
+    ensures sizes { (F.room file.new ≡ F.room file.old) × (F.used file.new ≡ F.used file.old)
+        × (F.next_room file.new ≡ F.next_room file.old) × (F.front file.new ≡ F.front file.old) }
     ensures any_moment { F.Throughout (λ rs. rs ≡ F.records file.old) file.old file.new }
 {
     for i in 0..file.len() {
