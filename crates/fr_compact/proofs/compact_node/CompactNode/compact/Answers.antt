@@ -1,4 +1,4 @@
-use Rattle.std.proofs.Common.{rules, ◌≡◌, ◌⊎◌, inl, inr, List, ℕ, None, Some, refl, sym, ap, subst, ◌∙◌}
+use Rattle.std.proofs.Common.{◌≡◌, inl, inr, List, ℕ, Some, refl, sym, ap, subst, ◌∙◌}
 use Rattle.fr_record_node.specs.Replay.{replayed}
 use Rattle.fr_compact.specs.Leading.{LeadsTo}
 use Rattle.fr_compact.specs.Node.{written_held, AreAsks, is_in_flight}

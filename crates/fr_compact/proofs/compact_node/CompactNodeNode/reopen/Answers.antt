@@ -1,4 +1,4 @@
-use Rattle.std.proofs.Common.{rules, ◌≡◌, ◌⊎◌, inl, None, Some, refl, subst, ◌∙◌}
+use Rattle.std.proofs.Common.{rules, ◌≡◌, ◌⊎◌, None, Some, refl, subst}
 use Rattle.fr_base.specs.Faults.{is_device}
 use Rattle.fr_record_node.specs.Node.{owed_of}
 use Rattle.fr_compact.specs.Leading.{LeadsTo}

@@ -1,4 +1,4 @@
-use Rattle.std.proofs.Common.{rules, ◌≡◌, ◌<◌, ◌≤◌, ◌++◌, List, ℕ, length, Some, true, false, ap, sym, ◌∙◌, subst, inl, inr}
+use Rattle.std.proofs.Common.{rules, ◌≡◌, ◌<◌, ◌≤◌, length, Some, true, false, ap, sym, ◌∙◌, subst}
 use Rattle.fr_record_node.specs.Several.{after_all, written_all}
 use Rattle.fr_record_node.specs.Replay.{replayed}
 use Rattle.fr_compact.proofs.AskLemmas.{all_sound, all_replay, all_fresh}

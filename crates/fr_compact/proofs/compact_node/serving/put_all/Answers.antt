@@ -1,4 +1,4 @@
-use Rattle.std.proofs.Common.{rules, ◌≡◌, ◌⊎◌, inl, inr, refl, Some, Err, ◌++◌, [], sym, ap, ◌∙◌, subst}
+use Rattle.std.proofs.Common.{◌≡◌, ◌⊎◌, inl, inr, refl, Some, Err, ◌++◌, sym, ap, ◌∙◌, subst}
 use Rattle.fr_record.specs.declared.fault.RecordFault.TheVariants as record_fault
 use Rattle.fr_segment.specs.Group.{records_of}
 use Rattle.fr_record_node.specs.Several.{after_all, written_all}

@@ -1,4 +1,4 @@
-use Rattle.std.proofs.Common.{rules, ◌≡◌, ◌⊎◌, ◌+◌, ◌-◌, ◌^◌, min, inl, inr, ℕ, Err, Some, refl, sym, ap, ◌∙◌, arith}
+use Rattle.std.proofs.Common.{◌≡◌, ◌⊎◌, inl, Some, refl, ap, ◌∙◌}
 use Rattle.fr_record_node.specs.Several.{after_all}
 use Rattle.fr_record_node.specs.Replay.{replayed}
 use Rattle.fr_compact.specs.Leading.{LeadsTo}

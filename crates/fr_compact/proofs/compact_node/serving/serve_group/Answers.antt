@@ -1,9 +1,9 @@
-use Rattle.std.proofs.Common.{rules, ◌≡◌, ◌⊎◌, ◌+◌, ◌-◌, ◌^◌, ◌++◌, min, true, false, Ok, Err, Some, IfOk, OnOk, OnErr, sym, ap, ◌∙◌, subst}
+use Rattle.std.proofs.Common.{◌≡◌, ◌⊎◌, ◌+◌, ◌-◌, ◌^◌, ◌++◌, min, true, false, Err, Some, IfOk, OnOk, OnErr, ap, ◌∙◌, subst}
 use Rattle.std.specs.Prelude.{IfErr, All}
 use Rattle.fr_base.specs.declared.node.NodeFault.TheVariants as node
 use Rattle.fr_record_node.specs.Several.{after_all, told_all, written_all}
 use Rattle.fr_compact.specs.Leading.{LeadsTo}
-use Rattle.fr_compact.specs.Room.{IsNoHelp, HasNoRoom}
+use Rattle.fr_compact.specs.Room.{IsNoHelp}
 use Rattle.fr_compact.proofs.NodeLemmas.{on_if_err, at_err}
 use Rattle.fr_compact.proofs.compact_node.serving.serve_group.Goals as goal
 

@@ -1,5 +1,5 @@
-use Rattle.std.proofs.Common.{◌≡◌, ◌<◌, length, take}
-use Rattle.std.specs.Prelude.{◌^◌, All}
+use Rattle.std.proofs.Common.{◌≡◌, take}
+use Rattle.std.specs.Prelude.{All}
 use Rattle.fr_segment.specs.Group.{records_of}
 use Rattle.fr_record_node.specs.Several.{after_all, told_all, written_all}
 use Rattle.fr_compact.proofs.compact_node.taking.take_all.Given as goal
