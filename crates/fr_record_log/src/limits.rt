@@ -49,7 +49,7 @@ fn records_within_limits(records: &[SeedRecord])
     }
 }
 
-fn record_within_limits(record: &SeedRecord)
+pub(crate) fn record_within_limits(record: &SeedRecord)
     ensures { IsSoundRecord «record».now }
 {
     let _numbers = (record.version.get(), record.tag.get());
