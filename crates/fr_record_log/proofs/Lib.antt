@@ -8,3 +8,4 @@ pub mod Runs
 pub mod Pushing
 pub mod Popping
 pub mod Spelled
+pub mod Tagged

@@ -1,6 +1,7 @@
 -- That an ask leaves a log within its limits, which keeps nothing of what it lets go.
-use Rattle.std.proofs.Common.{◌≡◌, ℕ, ◌<◌, Bool, true, false, List, [], ◌∷◌, map, All, Option, Some, None, cond, sym, ap, ◌∙◌, subst, arith}
-use Rattle.std.specs.Prelude.{◌^◌, ◌==◌, nat_lt, IfSome}
+use Rattle.std.proofs.Common.{◌≡◌, ℕ, ◌<◌, Bool, true, false, List, [], ◌∷◌, map, All, Option, Some, None, cond, refl, sym, ap, ◌∙◌, subst, arith}
+use Rattle.std.specs.Prelude.{◌^◌, ◌==◌, ◌&&◌, not, nat_lt, IfSome}
+use Rattle.std.proofs.lemmas.Bool.{and_parts}
 use Rattle.std.specs.Option.{option_map}
 use Rattle.std.proofs.lemmas.List.Elements.{All-nil, All-cons, All-head, All-tail, All-push, All-filter}
 use Rattle.fr_log.specs.declared.records.SeedRecord.{SeedRecord}
@@ -10,12 +11,12 @@ use Rattle.fr_log.specs.declared.ask.LogAsk.TheVariants.{Seed, Push, Pop}
 use Rattle.fr_log.specs.Seed.{SeedContent}
 use Rattle.fr_log.specs.Push.{PushContent}
 use Rattle.fr_log.specs.Left.{popped_at, raised, is_left, left_seed, left_push}
-use Rattle.fr_log.specs.LogState.{LogState, swept, known_of}
+use Rattle.fr_log.specs.LogState.{LogState, fresh_log, swept, known_of}
 use Rattle.fr_log.specs.Step.{next_of, after_ask, lets_go, popped_to, with_popped}
-use Rattle.fr_log.specs.Seeding.{more_seeded, with_seeded}
+use Rattle.fr_log.specs.Seeding.{is_unpopped, takes_seeded, more_seeded, with_seeded}
 use Rattle.fr_log.specs.SweptLaws.{known_same}
 use Rattle.fr_log.specs.Change.{LogChange, Stands, Seeds, Holds, Stops, Pops}
-use Rattle.fr_log.specs.Law.{IsLogAsk, AskLeavesLog, AskIsChange, FirstSeedSets, PushAdds, PoppedIsKnown, LetsGoIsSwept, SweptIsLog, SweptTwice}
+use Rattle.fr_log.specs.Law.{IsLogAsk, AskLeavesLog, AskIsChange, FirstSeedSets, PushAdds, PoppedIsKnown, LetsGoIsSwept, SweptIsLog, SweptTwice, UnpoppedIsSwept}
 use Rattle.fr_record_log.specs.Limits.{IsSoundRecord, IsSoundBody, IsSoundSeed, IsSoundPush, IsSoundAsk, IsWithinSeed, IsWithinPush, IsWithinLog}
 use Rattle.fr_record_log.specs.LogFile.{IsSoundLog, IsSettledLog}
 use Rattle.fr_record_log.specs.LogFileLaws.{picked, next_same}
@@ -160,3 +161,21 @@ pub settled_asked : SweptTwice → LetsGoIsSwept → AskIsChange → (l : LogSta
 settled_asked twice later change l a n within settled sound at =
     let goes = at ∙ later l a settled.sound.log (log_ask a within) settled.settled in
     record { sound = sound; settled = ap swept goes ∙ twice (next_of l a) ∙ sym goes; within = subst IsWithinLog (sym at) (within_after change l a within settled.within) }
+
+nothing_popped : (ps : List PoppedTag) → is_unpopped ps ≡ true → ps ≡ []
+nothing_popped [] e = refl
+nothing_popped (p ∷ ps) e = absurd (cc)
+
+-- so is one that took a record more into its seed: nothing of it is popped
+pub settled_seeded : UnpoppedIsSwept → (l : LogState) (r : SeedRecord) (n : LogState) → IsSoundRecord r → IsSettledLog l → IsSoundLog n → takes_seeded l r ≡ true → n ≡ with_seeded l r → IsSettledLog n
+settled_seeded unpopped l r n within h sound takes at =
+    let a = and_parts (not l.stopped) _ takes in
+    let b = and_parts (is_unpopped l.popped) _ a.1 in
+    let none : n.popped ≡ [] = ap (λ (x : LogState). x.popped) at ∙ nothing_popped l.popped b.0 in
+    record { sound = sound; settled = unpopped n sound.log none; within = subst IsWithinLog (sym at) (within_seeded l r within h.within) }
+
+-- and one that was never asked
+pub settled_fresh : UnpoppedIsSwept → (epoch index m k : ℕ) (n : LogState) → IsSoundLog n → n ≡ fresh_log epoch index m k → IsSettledLog n
+settled_fresh unpopped epoch index m k n sound at =
+    let within : IsWithinLog (fresh_log epoch index m k) = record { seed = tt; pushes = All-nil IsWithinPush; tags = All-nil (λ (p : PoppedTag). p.tag < 32) } in
+    record { sound = sound; settled = unpopped n sound.log (ap (λ (x : LogState). x.popped) at); within = subst IsWithinLog (sym at) within }

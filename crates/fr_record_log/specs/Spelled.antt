@@ -1,11 +1,25 @@
 -- The records of a log's whole state.
-use Rattle.std.specs.Prelude.{◌≡◌, ℕ, Bool, true, false, List, [], ◌∷◌, ◌++◌, map, Option, None, Some}
+use Rattle.std.specs.Prelude.{◌≡◌, ℕ, zero, suc, Bool, true, false, List, [], ◌∷◌, ◌++◌, map, Option, None, Some}
+use Rattle.fr_mutation.specs.declared.mutation.Mutation.{Mutation}
+use Rattle.fr_tags.specs.declared.body.Body.{Body}
 use Rattle.fr_log.specs.Seed.{SeedContent}
+use Rattle.fr_log.specs.Push.{PushContent}
+use Rattle.fr_log.specs.Pushes.{batch_at, pushed_batches}
 use Rattle.fr_log.specs.declared.popped.PoppedTag.{PoppedTag}
 use Rattle.fr_log.specs.LogState.{LogState}
 use Rattle.fr_record_node.specs.Replay.{replayed}
 use Rattle.fr_record_log.specs.Spelling.{spelled_head, spelled_seeded, spelled_push, spelled_popped}
 use Rattle.fr_record_log.specs.LogFile.{fresh_of, replay_log, IsSettledLog}
+
+-- the body of a tag with a batch, if there is one
+abbrev pub body_of : ℕ → Option (List Mutation) → List Body
+body_of tag None = []
+body_of tag (Some batch) = record { tag = tag; batch = batch } ∷ []
+
+-- the bodies of a version of the tags below this one, as they stand in the pushes of a log
+unfoldable pub tagged : ℕ → ℕ → List PushContent → List Body
+tagged zero version ps = []
+tagged (suc n) version ps = tagged n version ps ++ body_of n (batch_at version (pushed_batches n ps))
 
 -- the record of a tag that is popped through a version
 abbrev pub spelled_tag : PoppedTag → List ℕ

@@ -56,7 +56,7 @@ pub(crate) fn record_within_limits(record: &SeedRecord)
     let _mutations = record.batch.mutations();
 }
 
-fn push_within_limits(push: &Push)
+pub(crate) fn push_within_limits(push: &Push)
     ensures { IsSoundPush push.now }
 {
     let _versions = (push.prev().get(), push.version().get(), push.known().get());
