@@ -29,7 +29,6 @@ mod limits;
 mod log_file;
 mod log_node;
 mod reading;
-// mod spelled;
 mod spelling;
 
 pub use log_node::LogNode;
