@@ -7,5 +7,5 @@ pub mod Group
 pub mod Runs
 pub mod Pushing
 pub mod Popping
-pub mod Spelled
+pub mod Leading
 pub mod Tagged

@@ -1,4 +1,4 @@
-use Rattle.fr_record_log.proofs.Spelled.{spelled_log_is_read}
+use Rattle.fr_record_log.proofs.Leading.{spelled_log_is_read}
 use Rattle.fr_record_log.proofs.laws.spelled_law.Goals as goal
 
 pub returns : goal.returns
