@@ -6,8 +6,8 @@ ghost use Rattle.fr_log.specs.Pushes.{RiseFrom, is_headed};
 ghost use Rattle.fr_log.specs.Headers.{headers_in, AreRuns, first_mark, version_at, numbers_in};
 
 use crate::push::Push;
-use crate::pushes::{PushHeader, PushNumbers};
 use crate::pushes::run::Run;
+use crate::pushes::{PushHeader, PushNumbers};
 use fr_base::{Memory, Version};
 use fr_state::CoordState;
 use std::alloc::{AllocError, Global};
