@@ -138,7 +138,7 @@ def running(checks, room):
     with open(cluster.config, encoding="utf-8") as it:
         text = it.read()
     with open(cluster.config, "w", encoding="utf-8") as it:
-        it.write(text.replace('name = "m0"\n', f'name = "m0"\nhttp = "127.0.0.1:{port}"\n'))
+        it.write(text.replace('name = "m1"\n', f'name = "m1"\nhttp = "127.0.0.1:{port}"\n'))
     try:
         cluster.start_all()
         checks.check(cluster.comes(60) is not None, "it begins:", cluster.last.stderr)
@@ -315,7 +315,7 @@ def raw_port(cluster):
 
 
 def counts(cluster, name="messages that are none of ours"):
-    return cluster.standing()["machines"]["m0"]["counts"].get(name, 0)
+    return sum(its["counts"].get(name, 0) for its in cluster.standing()["machines"].values())
 
 
 def others(checks, cluster):
@@ -380,7 +380,7 @@ def dumps(checks, cluster):
 
 def pages(checks, port):
     text = fetch(port, "metrics")
-    for wanted in ("fdbrec_epoch ", 'fdbrec_node_up{node="cell-0"} 1', 'fdbrec_log_durable{node="log-257-0"} ',
+    for wanted in ("fdbrec_epoch ", 'fdbrec_node_up{node="cell-1"} 1', 'fdbrec_log_durable{node="log-257-1"} ',
                    "# TYPE fdbrec_messages_sent_total counter", "fdbrec_free_bytes "):
         checks.check(wanted in text, "/metrics lacks", wanted)
     checks.check(fetch(port, "healthz") == "ok\n", "/healthz says", fetch(port, "healthz"))
