@@ -194,21 +194,32 @@ def filling(checks, room):
     try:
         cluster.start_all()
         checks.check(cluster.comes(60) is not None, "it begins with small files:", cluster.last.stderr)
-        load = cluster.begin("bench", "--seconds", "40", "--clients", "8", "--keys", "4")
+        load = cluster.begin("bench", "--seconds", "30", "--clients", "4")
         load.communicate(timeout=120)
         checks.check(cluster.comes(20) is not None, "it goes on:", cluster.last.stderr)
         why = [it for at in (1, 2) for it in cluster.said(f"keeper-{at}", '"why":') if '"machines":' in it]
         rolled = [it for it in why if "with room for 1048576" in it]
-        checks.check(len(rolled) > 1 and not any("is full" in it for it in why), "epochs that were ended:", why)
-        standing = cluster.standing()
-        sizes = [its["bytes"] for each in standing["machines"].values() for token, its in each["nodes"].items()
-                 if token.startswith("log-") and "bytes" in its]
-        checks.check(standing["newest"]["epoch"] > 513 and max(sizes) <= 1048576 and len(sizes) <= 16, "logs:", sizes)
+        checks.check(rolled and not any("is full" in it for it in why), "epochs that were ended:", why)
+        sizes = log_sizes(cluster)
+        checks.check(max(sizes) <= 1048576 and cluster.standing()["newest"]["epoch"] > 257, "files of logs:", sizes)
+        # (a state names generations until the next recovery, and no log is let go while one comes after the other)
+        ran = cluster.run("recover")
+        checks.check(ran.returncode == 0 and cluster.comes(60) is not None, "recover:", ran.stdout, ran.stderr)
+        ends = time.monotonic() + 60
+        while len(sizes := log_sizes(cluster)) > 16 and time.monotonic() < ends:
+            time.sleep(0.5)
+        checks.check(len(sizes) <= 16, "logs of ended epochs are let go:", sizes)
         cluster.stop()
         line, why, _ = cluster.audit()
         checks.check(line == "audit ok", line, why)
     finally:
         cluster.drop()
+
+
+def log_sizes(cluster):
+    """How many bytes the file of each log has."""
+    machines = cluster.standing()["machines"].values()
+    return [its.get("bytes", 0) for each in machines for name, its in each["nodes"].items() if name.startswith("log-")]
 
 
 def strange(checks, cluster):
