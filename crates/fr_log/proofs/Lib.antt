@@ -14,3 +14,4 @@ pub mod Runs
 pub mod Chaining
 pub mod Held
 pub mod Popping
+pub mod Numbers

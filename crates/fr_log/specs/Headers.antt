@@ -1,8 +1,9 @@
 -- The headers of a log's pushes, held as runs that go evenly.
-use Rattle.std.specs.Prelude.{ℕ, zero, suc, ◌+◌, ◌*◌, ◌<◌, ◌≤◌, ◌^◌, Bool, ◌==◌, ◌&&◌, is_none, List, [], ◌∷◌, ◌++◌, length, Option, None, Some}
+use Rattle.std.specs.Prelude.{ℕ, zero, suc, ◌+◌, ◌*◌, ◌<◌, ◌≤◌, ◌^◌, Bool, ◌==◌, ◌&&◌, is_none, List, [], ◌∷◌, ◌++◌, map, length, Option, None, Some}
 use Rattle.std.specs.List.{AllByRecursion}
 use Rattle.fr_state.specs.Generations.{CoordinatedState}
 use Rattle.fr_log.specs.declared.pushes.header.PushHeader.{PushHeader}
+use Rattle.fr_log.specs.declared.pushes.header.PushNumbers.{PushNumbers}
 use Rattle.fr_log.specs.Push.{PushContent}
 
 -- the header that follows one evenly: no mark, of the same epoch, its version and what is known greater by a step
@@ -51,3 +52,7 @@ follows_as p epoch prev = (p.epoch == epoch) && ((p.prev == prev) && is_none p.m
 -- whether a header is no mark, and of this epoch, behind this version and with so much known
 abbrev pub is_numbered : PushHeader → ℕ → ℕ → ℕ → Bool
 is_numbered h epoch prev known = (h.epoch == epoch) && ((h.prev == prev) && ((h.known == known) && is_none h.mark))
+
+-- the numbers of headers
+abbrev pub numbers_in : List PushHeader → List PushNumbers
+numbers_in hs = map (λ h. record { prev = h.prev; version = h.version; known = h.known }) hs

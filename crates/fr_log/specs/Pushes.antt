@@ -7,6 +7,7 @@ use Rattle.fr_tags.specs.declared.body.Body.{Body}
 use Rattle.fr_tags.specs.Bodies.{batch_of}
 use Rattle.fr_log.specs.declared.records.PeekedRecord.{PeekedRecord}
 use Rattle.fr_log.specs.declared.pushes.header.PushHeader.{PushHeader}
+use Rattle.fr_log.specs.declared.pushes.header.PushNumbers.{PushNumbers}
 use Rattle.fr_log.specs.Push.{PushContent, is_same_mark}
 
 -- a batch at its version
@@ -95,3 +96,7 @@ header_of p = record { epoch = p.epoch; prev = p.prev; version = p.version; know
 -- whether a push and a header have all in common but what each tells to be known
 abbrev pub is_headed : PushContent → PushHeader → Bool
 is_headed p h = (p.epoch == h.epoch) && ((p.prev == h.prev) && ((p.version == h.version) && is_same_mark p.mark h.mark))
+
+-- the numbers of a push
+abbrev pub pushed_numbers : PushContent → PushNumbers
+pushed_numbers p = record { prev = p.prev; version = p.version; known = p.known }

@@ -49,5 +49,6 @@ pub use log::{Checkpoint, Log};
 pub use peeked::Peeked;
 pub use popped::{PoppedTag, PoppedTags};
 pub use push::Push;
+pub use pushes::PushNumbers;
 pub use records::{PeekedRecord, SeedRecord};
 pub use seed::Seed;

@@ -1,11 +1,12 @@
 //! A log: what it holds, and what it answers.
-ghost use Rattle.std.specs.Prelude.{◌≡◌, ◌<◌, ◌≤◌, is_some, IfOk};
+ghost use Rattle.std.specs.Prelude.{◌≡◌, ◌<◌, ◌≤◌, is_some, map, IfOk};
 ghost use Rattle.std.specs.List.{list_all};
 ghost use Rattle.std.specs.List.Sorted.{IsNonDecreasingBy};
 ghost use Rattle.std.specs.Option.{option_copied, option_map};
 ghost use Rattle.fr_log.specs.LogState.{fresh_log, first_of, seeded_to_of, seed_records_of, holds, durable_of, known_of, is_push_held, mark_among, swept};
 ghost use Rattle.fr_log.specs.Chain.{IsLog};
 ghost use Rattle.fr_log.specs.Left.{left_seed};
+ghost use Rattle.fr_log.specs.Pushes.{batch_at, pushed_batches, pushed_numbers};
 
 mod checkpoint;
 mod refusal;
@@ -14,11 +15,12 @@ mod step;
 
 use crate::popped::{PoppedTag, PoppedTags};
 use crate::push::Push;
-use crate::pushes::Pushes;
+use crate::pushes::{PushNumbers, Pushes};
 use crate::records::SeedRecord;
 use crate::seed::Seed;
 pub use checkpoint::Checkpoint;
 use fr_base::{LogId, Memory, Shape, Tag, Version};
+use fr_mutation::Batch;
 use fr_state::CoordState;
 use fr_tags::{Body, MAX_LOGS, is_held};
 use std::alloc::{AllocError, Global};
@@ -161,6 +163,35 @@ impl Log {
         &self.popped
     }
 
+    /// Its seed, with the records that are left of it.
+    pub fn seed(&self) -> Option<&Seed>
+        ensures value { option_copied result ≡ self.now.seed }
+        ensures sound { IsLog self.now }
+    {
+        self.seed.as_ref()
+    }
+
+    /// The coordinated state of its mark, which is the first push.
+    pub fn mark(&self) -> Option<&CoordState>
+        ensures { option_copied result ≡ mark_among self.now.pushes }
+    {
+        self.pushes.mark()
+    }
+
+    /// The numbers of its pushes, the oldest first: what is popped of a push does not change them.
+    pub fn numbers(&self, alloc: Global) -> Result<Vec<PushNumbers>, Memory>
+        ensures { IfOk result (λ list. list.items ≡ map pushed_numbers self.now.pushes) }
+    {
+        self.pushes.numbers(alloc)
+    }
+
+    /// The batch that the push of a version has of a tag, if it is left. It is found by halving.
+    pub fn batch_at(&self, tag: Tag, version: Version) -> Option<&Batch>
+        ensures { option_copied result ≡ batch_at version (pushed_batches tag self.now.pushes) }
+    {
+        self.pushes.batch_at(tag, version)
+    }
+
     /// Lets go of what is popped. It takes no memory.
     pub fn settle(&mut self)
         ensures after { self.new ≡ swept self.old }
@@ -205,12 +236,6 @@ impl Log {
         // `popped` goes along because the held push may have lost batches that the repeated one still carries
         // (invariant 7).
         self.pushes.has(push, self.popped.as_slice())
-    }
-
-    fn mark(&self) -> Option<&CoordState>
-        ensures { option_copied result ≡ mark_among self.now.pushes }
-    {
-        self.pushes.mark()
     }
 
     fn seed_records(&self) -> &[SeedRecord]

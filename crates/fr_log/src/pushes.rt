@@ -5,7 +5,7 @@ ghost use Rattle.std.specs.Cmp.Lexicographic.{pointwise};
 ghost use Rattle.fr_tags.specs.Bodies.{batch_of, is_rising_from, is_same_body};
 ghost use Rattle.fr_log.specs.LogState.{mark_among};
 ghost use Rattle.fr_log.specs.Search.{is_found, pushed_records};
-ghost use Rattle.fr_log.specs.Pushes.{shelf_of, bodies_from, at_version, AreBelow, ArePushedBelow, cut, above};
+ghost use Rattle.fr_log.specs.Pushes.{shelf_of, bodies_from, at_version, AreBelow, ArePushedBelow, cut, above, batch_at, pushed_batches, pushed_numbers};
 ghost use Rattle.fr_log.specs.Left.{popped_at, left_bodies, left_push, IsBodyLeftAtFirst};
 
 mod chain;
@@ -18,9 +18,11 @@ use crate::push::Push;
 use crate::records::PeekedRecord;
 use chain::Headers;
 use fr_base::{Memory, Tag, Version};
+use fr_mutation::Batch;
 use fr_state::CoordState;
 use fr_tags::Body;
 pub(crate) use header::PushHeader;
+pub use header::PushNumbers;
 use shelf::Shelf;
 use std::alloc::{AllocError, Global};
 use std::marker::Model;
@@ -69,6 +71,23 @@ impl Pushes {
         ensures { option_copied result ≡ mark_among self.now }
     {
         self.headers.mark()
+    }
+
+    /// The numbers of each, the oldest first.
+    pub(crate) fn numbers(&self, alloc: Global) -> Result<Vec<PushNumbers>, Memory>
+        ensures { IfOk result (λ list. list.items ≡ map pushed_numbers self.now) }
+    {
+        self.headers.numbers(alloc)
+    }
+
+    /// The batch of a tag at a version.
+    pub(crate) fn batch_at(&self, tag: Tag, version: Version) -> Option<&Batch>
+        ensures { option_copied result ≡ batch_at version (pushed_batches tag self.now) }
+    {
+        match self.shelves.get(usize::from(tag.get())) {
+            Some(shelf) => shelf.at(version),
+            None => None,
+        }
     }
 
     /// Whether a push is among them, whatever it tells of what is known, and of what is popped. Its version is

@@ -5,3 +5,7 @@ pub mod Records
 pub mod Settling
 pub mod Group
 pub mod Runs
+pub mod Pushing
+pub mod Popping
+pub mod Leading
+pub mod Tagged

@@ -4,3 +4,4 @@ pub mod Reading
 pub mod LogFile
 pub mod LogFileLaws
 pub mod Law
+pub mod Spelled

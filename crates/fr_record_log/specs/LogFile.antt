@@ -8,6 +8,7 @@ use Rattle.fr_log.specs.Seeding.{changes, takes_seeded, with_seeded, may_pop}
 use Rattle.fr_record_log.specs.declared.change.Change.{Change}
 use Rattle.fr_record_log.specs.declared.change.Change.TheVariants.{Asked, Seeded, LetGo}
 use Rattle.fr_record_node.specs.Replay.{replayed}
+use Rattle.fr_record_log.specs.Limits.{IsWithinLog}
 use Rattle.fr_record_log.specs.Spelling.{written_log}
 use Rattle.fr_record_log.specs.Reading.{◌>>=◌, change_at}
 
@@ -31,10 +32,12 @@ pub record IsSoundLog (l : LogState) : Type 0 where
   pub known : known_of l < 2 ^ 62
   pub log : IsLog l
 
--- such a log that keeps nothing of what its asks let go
+-- such a log that keeps nothing of what its asks let go, and whose parts are within their limits: so they have one
+-- spelling
 pub record IsSettledLog (l : LogState) : Type 0 where
   pub sound : IsSoundLog l
   pub settled : swept l ≡ l
+  pub within : IsWithinLog l
 
 -- the records of an ask lead every such log where the ask does
 abbrev pub LeadsBack : LogAsk → Type 0

@@ -1,5 +1,6 @@
 //! The law of the files of logs.
 ghost use Rattle.fr_record_log.specs.Law.{AskIsFileAsk, RunIsRead, ReadIsRun, WrittenApart, ToldApart};
+ghost use Rattle.fr_record_log.specs.Spelled.{SpelledLogIsRead};
 
 use crate::log_file::FileLog;
 use fr_log::laws::{chain_law, change_law, letting_law, pop_law, raise_law};
@@ -26,6 +27,14 @@ pub(crate) fn file_ask_law()
 pub fn run_law()
     ensures read { RunIsRead }
     ensures run { ReadIsRun }
+{
+    file_ask_law();
+}
+
+/// The records of a log's whole state lead a log that was never asked to exactly this one: so they can stand in the place
+/// of all the records by which it came there.
+pub fn spelled_law()
+    ensures { SpelledLogIsRead }
 {
     file_ask_law();
 }

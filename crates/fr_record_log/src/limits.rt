@@ -49,14 +49,14 @@ fn records_within_limits(records: &[SeedRecord])
     }
 }
 
-fn record_within_limits(record: &SeedRecord)
+pub(crate) fn record_within_limits(record: &SeedRecord)
     ensures { IsSoundRecord «record».now }
 {
     let _numbers = (record.version.get(), record.tag.get());
     let _mutations = record.batch.mutations();
 }
 
-fn push_within_limits(push: &Push)
+pub(crate) fn push_within_limits(push: &Push)
     ensures { IsSoundPush push.now }
 {
     let _versions = (push.prev().get(), push.version().get(), push.known().get());

@@ -7,11 +7,11 @@ ghost use Rattle.fr_record_log.specs.LogFile.{taken, IsSettledLog};
 
 use crate::change::Change;
 use crate::laws::file_ask_law;
-use crate::limits::{ask_within_limits, log_within_limits};
+use crate::limits::{ask_within_limits, log_within_limits, record_within_limits};
 use crate::reading::change_at;
 use crate::spelling::spelled_ask;
 use fr_base::{Machine, Memory};
-use fr_log::laws::{chain_law, letting_law, place_law};
+use fr_log::laws::{chain_law, change_law, letting_law, place_law};
 use fr_log::{Checkpoint, Log, LogAsk, LogTell, PoppedTag, SeedRecord};
 use fr_record_node::{RecordReadFault, Recorded};
 use std::alloc::Global;
@@ -86,6 +86,7 @@ fn take_ask(log: &mut Log, alloc: Global, ask: LogAsk) -> Result<(), RecordReadF
     ensures settled { IsSettledLog log.new }
 {
     chain_law();
+    change_law();
     letting_law();
     log_within_limits(log);
     ask_within_limits(&ask);
@@ -114,6 +115,7 @@ fn take_seeded(log: &mut Log, next: SeedRecord) -> Result<(), RecordReadFault>
 {
     letting_law();
     log_within_limits(log);
+    record_within_limits(&next);
     match log.take_seeded(next) {
         Ok(true) => {
             log_within_limits(log);
@@ -135,6 +137,7 @@ fn take_popped(log: &mut Log, popped: PoppedTag) -> Result<(), RecordReadFault>
 {
     letting_law();
     log_within_limits(log);
+    let _within = popped.tag.get();
     match log.take_popped(popped) {
         Ok(true) => {
             // At each record, so that reading a long file back never holds more than the log does (invariant 5).

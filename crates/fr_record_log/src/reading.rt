@@ -76,7 +76,7 @@ fn version_at(bytes: &[u8]) -> Result<(u64, &[u8]), RecordReadFault>
     }
 }
 
-fn version_of(number: u64) -> Version
+pub(crate) fn version_of(number: u64) -> Version
     requires { number < 2 ^ 62 }
     ensures { result ≡ number }
 {
@@ -101,7 +101,7 @@ fn tag_at(bytes: &[u8]) -> Result<(u8, &[u8]), RecordReadFault>
     }
 }
 
-fn tag_of(number: u8) -> Tag
+pub(crate) fn tag_of(number: u8) -> Tag
     requires { number < 32 }
     ensures { result ≡ number }
 {

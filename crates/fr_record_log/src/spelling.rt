@@ -52,7 +52,7 @@ pub(crate) fn spelled_ask(alloc: Global, log: &Log, ask: &LogAsk) -> Result<Vec<
 
 /// The record of a seed but for its records.
 #[tactic(auto, unfolding(crate::specs::Spelling::spelled_head))]
-fn head(alloc: Global, log: &Log, seed: &Seed) -> Result<Vec<u8>, Memory>
+pub(crate) fn head(alloc: Global, log: &Log, seed: &Seed) -> Result<Vec<u8>, Memory>
     ensures bytes { IfOk result (λ bytes. bytes.items ≡ spelled_head log.now seed.now) }
     ensures short { IfOk result (λ bytes. length bytes.items < 2 ^ 32) }
 {
@@ -69,7 +69,7 @@ fn head(alloc: Global, log: &Log, seed: &Seed) -> Result<Vec<u8>, Memory>
 
 /// The record of a tag that is popped through a version.
 #[tactic(auto, unfolding(crate::specs::Spelling::spelled_popped))]
-fn popped(alloc: Global, tag: Tag, version: Version) -> Result<Vec<u8>, Memory>
+pub(crate) fn popped(alloc: Global, tag: Tag, version: Version) -> Result<Vec<u8>, Memory>
     ensures bytes { IfOk result (λ bytes. bytes.items ≡ spelled_popped tag version) }
     ensures short { IfOk result (λ bytes. length bytes.items < 2 ^ 32) }
 {
@@ -81,7 +81,7 @@ fn popped(alloc: Global, tag: Tag, version: Version) -> Result<Vec<u8>, Memory>
 }
 
 /// Adds the records of a seed's records to a group.
-fn put_records(
+pub(crate) fn put_records(
     group: &mut Vec<Vec<u8>>,
     alloc: Global,
     records: &[SeedRecord],
@@ -112,7 +112,7 @@ fn seeded(alloc: Global, record: &SeedRecord) -> Result<Vec<u8>, Memory>
 }
 
 /// The record of a push or of a mark.
-fn pushed(alloc: Global, push: &Push) -> Result<Vec<u8>, Memory>
+pub(crate) fn pushed(alloc: Global, push: &Push) -> Result<Vec<u8>, Memory>
     requires { IsSoundPush push.now }
     ensures bytes { IfOk result (λ bytes. bytes.items ≡ spelled_push push.now) }
     ensures short { IfOk result (λ bytes. length bytes.items < 2 ^ 32) }
@@ -184,7 +184,7 @@ fn batch_bytes(alloc: Global, batch: &Batch) -> Result<Vec<u8>, Memory>
     encode_batch(alloc, batch)
 }
 
-fn lock(alloc: Global) -> Result<Vec<u8>, Memory>
+pub(crate) fn lock(alloc: Global) -> Result<Vec<u8>, Memory>
     ensures { IfOk result (λ bytes. bytes.items ≡ 5 ∷ []) }
 {
     let mut bytes = Vec::new(alloc);

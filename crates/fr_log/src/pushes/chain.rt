@@ -1,13 +1,13 @@
 //! The headers of the pushes that a log holds.
-ghost use Rattle.std.specs.Prelude.{◌≡◌, ◌+◌, ◌<◌, ◌≤◌, ◌∷◌, ◌++◌, [], false, length, take, Some, IsTrue, OnOk, OnErr};
+ghost use Rattle.std.specs.Prelude.{◌≡◌, ◌+◌, ◌<◌, ◌≤◌, ◌∷◌, ◌++◌, [], false, length, take, Some, IsTrue, IfOk, OnOk, OnErr};
 ghost use Rattle.std.specs.List.{list_any};
 ghost use Rattle.std.specs.Option.{option_copied};
 ghost use Rattle.fr_log.specs.Pushes.{RiseFrom, is_headed};
-ghost use Rattle.fr_log.specs.Headers.{headers_in, AreRuns, first_mark, version_at};
+ghost use Rattle.fr_log.specs.Headers.{headers_in, AreRuns, first_mark, version_at, numbers_in};
 
 use crate::push::Push;
-use crate::pushes::PushHeader;
 use crate::pushes::run::Run;
+use crate::pushes::{PushHeader, PushNumbers};
 use fr_base::{Memory, Version};
 use fr_state::CoordState;
 use std::alloc::{AllocError, Global};
@@ -79,6 +79,15 @@ impl Headers {
         self.runs[after - 1].heads(push)
     }
 
+    /// The numbers of each.
+    pub(crate) fn numbers(&self, alloc: Global) -> Result<Vec<PushNumbers>, Memory>
+        ensures { IfOk result (λ list. list.items ≡ numbers_in self.now) }
+    {
+        let mut list = Vec::new(alloc);
+        put_runs(&self.runs, &mut list)?;
+        Ok(list)
+    }
+
     /// Adds a header above all others. Out of memory changes nothing.
     pub(crate) fn push(&mut self, header: PushHeader) -> Result<(), Memory>
         requires { RiseFrom 0 (self.old ++ header ∷ []) }
@@ -121,6 +130,16 @@ impl Clone for Headers {
             len: self.len,
         })
     }
+}
+
+/// Appends the numbers of the headers of runs.
+fn put_runs(runs: &[Run], list: &mut Vec<PushNumbers>) -> Result<(), Memory>
+    ensures { OnOk result (list.new.items ≡ list.old.items ++ numbers_in (headers_in runs.now)) }
+{
+    for run in runs {
+        run.put(list)?;
+    }
+    Ok(())
 }
 
 /// How many there are with one more at a version above all: no more than there are versions.

@@ -11,3 +11,12 @@ pub(crate) struct PushHeader {
     pub(crate) known: Version,
     pub(crate) mark: Option<CoordState>,
 }
+
+/// The numbers of a push that a log holds, each below 2^62: the version before it in the chain, its own, and the
+/// greatest one that it told to be committed.
+#[derive(Clone, Copy, Debug, PartialEq, Eq)]
+pub struct PushNumbers {
+    pub prev: u64,
+    pub version: u64,
+    pub known: u64,
+}

@@ -1,13 +1,13 @@
 //! Headers that follow one another evenly.
-ghost use Rattle.std.specs.Prelude.{◌≡◌, ◌≤◌, ◌<◌, ◌∷◌, ◌++◌, [], false, length, take, Some, IsTrue};
+ghost use Rattle.std.specs.Prelude.{◌≡◌, ◌≤◌, ◌<◌, ◌∷◌, ◌++◌, [], false, length, take, Some, IsTrue, OnOk};
 ghost use Rattle.std.specs.List.{list_any};
 ghost use Rattle.std.specs.Option.{option_copied};
 ghost use Rattle.fr_log.specs.Pushes.{is_headed};
-ghost use Rattle.fr_log.specs.Headers.{evenly, begins, first_mark, version_at, follows_as, is_numbered};
+ghost use Rattle.fr_log.specs.Headers.{evenly, IsRun, begins, first_mark, version_at, follows_as, is_numbered, numbers_in};
 
 use crate::push::Push;
-use crate::pushes::PushHeader;
-use fr_base::{Epoch, Step, Version};
+use crate::pushes::{PushHeader, PushNumbers};
+use fr_base::{Epoch, Memory, Step, Version};
 use fr_state::CoordState;
 use std::alloc::AllocError;
 use std::marker::Model;
@@ -99,6 +99,13 @@ impl Run {
         }
     }
 
+    /// Appends the numbers of each.
+    pub(crate) fn put(&self, list: &mut Vec<PushNumbers>) -> Result<(), Memory>
+        ensures { OnOk result (list.new.items ≡ list.old.items ++ numbers_in self.now) }
+    {
+        put_evenly(&self.first, self.step, self.more, list)
+    }
+
     /// Takes one more header, if that follows evenly; the second one says what the step is.
     pub(crate) fn add(&mut self, header: &PushHeader) -> bool
         ensures yes { IsTrue result → self.new ≡ self.old ++ header.now ∷ [] }
@@ -148,6 +155,35 @@ impl Clone for Run {
             more: self.more,
         })
     }
+}
+
+/// Appends the numbers of a header and of so many more that follow it evenly.
+fn put_evenly(
+    first: &PushHeader,
+    step: u64,
+    more: usize,
+    list: &mut Vec<PushNumbers>,
+) -> Result<(), Memory>
+    requires { IsRun first.now step more }
+    ensures { OnOk result (list.new.items ≡ list.old.items ++ numbers_in (evenly first.now step more)) }
+{
+    let (prev, version) = (first.prev.get(), first.version.get());
+    let known = first.known.get();
+    let mut last = PushNumbers {
+        prev,
+        version,
+        known,
+    };
+    list.push(last)?;
+    for _ in 0..more {
+        last = PushNumbers {
+            prev: last.version,
+            version: last.version + step,
+            known: last.known + step,
+        };
+        list.push(last)?;
+    }
+    Ok(())
 }
 
 /// Whether a push is no mark, of an epoch, and behind a version.
