@@ -19,3 +19,16 @@ mod ParseLemmas
 mod ReadLemmas
 mod TableIs
 mod HeaderLemmas
+mod PairRun
+mod TurnsLemmas
+mod InTurn
+mod RenewRun
+mod Renewed
+mod FirstLemmas
+mod NextTurn
+mod Replacing
+mod Reopening
+mod OwnRecords
+mod ReopenFaults
+mod OpenRun
+mod Opened
