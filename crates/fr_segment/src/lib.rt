@@ -54,8 +54,6 @@ mod segment;
 mod spell;
 #[cfg(test)]
 mod tests;
-#[cfg(test)]
-mod tests_turns;
 mod turns;
 mod whose;
 
