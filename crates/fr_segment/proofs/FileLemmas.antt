@@ -240,13 +240,12 @@ body_at number first second b rest =
     ∙ drop_at (n ++ seal number n) (b ++ (seal number b ++ rest)) 8 (omega (arith, length-append n (seal number n), length-spelled (length b), length-seal number n))
 
 -- what is written behind a gate, part by part
-pub spelled_behind : (number : ℕ) (g : Group) (n first second : ℕ) (b : List ℕ) → b ≡ body g → n ≡ length b → first ≡ sum_of number (be32 n) → second ≡ sum_of number b
-    → (((be32 n ++ be32 first) ++ b) ++ be32 second) ++ 0 ∷ 0 ∷ [] ≡ behind number g
+pub spelled_block : (number n first second : ℕ) (b : List ℕ) → n ≡ length b → first ≡ sum_of number (be32 n) → second ≡ sum_of number b
+    → (((be32 n ++ be32 first) ++ b) ++ be32 second) ++ 0 ∷ 0 ∷ [] ≡ block number b ++ 0 ∷ 0 ∷ []
 unfolding block seal
-spelled_behind number g n first second b is long first_is second_is =
+spelled_block number n first second b long first_is second_is =
     let l = be32 n in
     ap (λ x. (((l ++ be32 x) ++ b) ++ be32 second) ++ 0 ∷ 0 ∷ []) first_is
     ∙ ap (λ x. (((l ++ be32 (sum_of number l)) ++ b) ++ be32 x) ++ 0 ∷ 0 ∷ []) second_is
     ∙ ap (λ x. x ++ 0 ∷ 0 ∷ []) (append_assoc (l ++ be32 (sum_of number l)) b (be32 (sum_of number b)))
     ∙ ap (λ (k : ℕ). ((be32 k ++ be32 (sum_of number (be32 k))) ++ (b ++ be32 (sum_of number b))) ++ 0 ∷ 0 ∷ []) long
-    ∙ ap (λ x. block number x ++ 0 ∷ 0 ∷ []) is

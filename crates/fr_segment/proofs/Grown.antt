@@ -63,6 +63,10 @@ module _ (disk : Disk) (table : List Place) (end : ℕ) (is_failed : Bool) (coun
   pub end_is : end ≡ length (groups_from 0 (groups_in count disk.content))
   end_is = at_is disk.content table end (groups_in count disk.content) file.read
 
+  -- bytes that were spelled for the number of groups are those for the count
+  pub spelled_there : (groups : List Group) → groups_in count disk.content ≡ groups → (g : Group) (bytes : List ℕ) → bytes ≡ behind (length groups) g ++ guard (length groups + 1) → bytes ≡ behind count g ++ guard (count + 1)
+  spelled_there groups same g bytes is = let k : length groups ≡ count = ap length (sym same) ∙ count_is in is ∙ ap (λ n. behind n g ++ guard (n + 1)) k
+
   -- while a group is put, a crash leaves the groups with it or without it
   pub leaves : is_failed ≡ false → (g : Group) (left : List ℕ) → IsPut disk.content end (behind count g) left → IsLeft (groups_in count disk.content) g left
   leaves works g left put =

@@ -19,3 +19,11 @@ mod ParseLemmas
 mod ReadLemmas
 mod TableIs
 mod HeaderLemmas
+mod PairRun
+mod TurnsLemmas
+mod InTurn
+mod RenewRun
+mod Renewed
+mod FirstLemmas
+mod NextTurn
+mod Replacing

@@ -26,7 +26,7 @@ mended_file disk bytes torn table end count parsed is durable = record {
   durable = λ works. durable;
 }
 
-closed_or_open : (bytes : List ℕ) (at : ℕ) → at + 1 < length bytes → IsClosedAt bytes at ⊎ (0 < get_or bytes at 0 + get_or bytes (at + 1) 0)
+pub closed_or_open : (bytes : List ℕ) (at : ℕ) → at + 1 < length bytes → IsClosedAt bytes at ⊎ (0 < get_or bytes at 0 + get_or bytes (at + 1) 0)
 closed_or_open bytes at within = go (get_or bytes at 0) (get_or bytes (at + 1) 0) refl refl
   where
     go : (a b : ℕ) → get_or bytes at 0 ≡ a → get_or bytes (at + 1) 0 ≡ b → IsClosedAt bytes at ⊎ (0 < get_or bytes at 0 + get_or bytes (at + 1) 0)

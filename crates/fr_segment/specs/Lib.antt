@@ -6,5 +6,12 @@ pub mod Parse
 pub mod State
 pub mod Put
 pub mod Opening
+pub mod Room
 pub mod Laws
 pub mod Header
+pub mod Turns
+pub mod Pair
+pub mod First
+pub mod Health
+pub mod Way
+pub mod PairLaws

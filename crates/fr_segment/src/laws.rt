@@ -1,5 +1,6 @@
 //! Laws over files of groups.
 ghost use Rattle.fr_segment.specs.Header.{OneFile, OneOwner};
+ghost use Rattle.fr_segment.specs.Turns.{OnePair};
 ghost use Rattle.fr_segment.specs.Laws.{TellsOneByte, OneList, WholeOrNot, RestStands, OneByteIsTold, ClosedGateIsTold, RestIsFree};
 
 /// A checksum tells one changed byte.
@@ -27,4 +28,9 @@ pub fn damage_law()
 pub fn header_law()
     ensures one_file { OneFile }
     ensures one_owner { OneOwner }
+{}
+
+/// Two files in turn stand for one list of records at most.
+pub fn pair_law()
+    ensures one_pair { OnePair }
 {}

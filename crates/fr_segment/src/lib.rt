@@ -28,8 +28,12 @@
 #![tactic(auto)]
 
 mod crc;
+mod first;
 mod gate;
+mod group_file;
+mod health;
 mod laws;
+mod open_fault;
 mod parse;
 mod place;
 mod read;
@@ -37,10 +41,16 @@ mod segment;
 mod spell;
 #[cfg(test)]
 mod tests;
+#[cfg(test)]
+mod tests_turns;
+mod turns;
 mod whose;
 
 pub use crc::{crc32c, sum};
-pub use laws::{crc_law, damage_law, header_law, left_law};
+pub use group_file::{GroupFile, Sizes};
+pub use laws::{crc_law, damage_law, header_law, left_law, pair_law};
+pub use open_fault::OpenFault;
 pub use segment::Segment;
 pub use spell::group_len;
+pub use turns::Segments;
 pub use whose::{header, header_number, identity};

@@ -25,7 +25,7 @@ pub(crate) struct Found {
 }
 
 /// The number that four bytes spell.
-fn read_u32(bytes: &[u8], at: usize) -> u32
+pub(crate) fn read_u32(bytes: &[u8], at: usize) -> u32
     requires { at + 4 ≤ length bytes.now }
     ensures { take 4 (drop at bytes.now) ≡ to_be_bytes w32 result }
 {
@@ -33,7 +33,7 @@ fn read_u32(bytes: &[u8], at: usize) -> u32
 }
 
 /// The length of the body, if the block of this number stands at a place.
-fn block_at(bytes: &[u8], at: usize, number: u64) -> Option<usize>
+pub(crate) fn block_at(bytes: &[u8], at: usize, number: u64) -> Option<usize>
     requires { at ≤ length bytes.now }
     ensures some { IfSome result (λ n. IsBlockAt bytes.now at number n) }
     ensures none { (result ≡ None) → (content rest : List ℕ) → length content < 2 ^ 32 → drop at bytes.now ≡ block number content ++ rest → ⊥ }
@@ -89,7 +89,7 @@ fn add_records(
 }
 
 /// Whether a closed gate stands at a place.
-fn is_closed(bytes: &[u8], at: usize) -> bool
+pub(crate) fn is_closed(bytes: &[u8], at: usize) -> bool
     requires { at ≤ length bytes.now }
     ensures { IsTrue result ↔ ((at + 1 < length bytes.now) × IsClosedAt bytes.now at) }
 {

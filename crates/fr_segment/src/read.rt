@@ -16,7 +16,7 @@ use fr_record::{Device, DeviceFault, RecordFault};
 use std::alloc::Global;
 
 /// All bytes of a device. It is synced before they are read, so that a later crash leaves what was read.
-fn load<D: Device>(alloc: Global, device: &mut D) -> Result<Vec<u8>, RecordFault>
+pub(crate) fn load<D: Device>(alloc: Global, device: &mut D) -> Result<Vec<u8>, RecordFault>
     ensures bytes { IfOk result (λ bytes. bytes.items ≡ (D.disk device.old).content) }
     ensures durable { OnOk result (IsDurable (D.disk device.new)) }
     ensures memory { (result ≡ Err RecordFault.Memory) → IsDurable (D.disk device.new) }

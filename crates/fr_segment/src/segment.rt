@@ -1,5 +1,5 @@
 //! Files of groups of records.
-ghost use Rattle.std.specs.Prelude.{◌≡◌, ◌≢◌, ◌↔◌, ◌⊎◌, ◌||◌, ◌+◌, ◌-◌, ◌^◌, ◌<◌, nat_lt, min, [], ◌∷◌, ◌++◌, List, ℕ, length, false, Err, IsTrue, IsOk, IfOk, IfErr, OnOk, OnErr};
+ghost use Rattle.std.specs.Prelude.{◌≡◌, ◌≢◌, ◌↔◌, ◌⊎◌, ◌||◌, ◌+◌, ◌-◌, ◌^◌, ◌<◌, ◌≤◌, nat_lt, min, [], ◌∷◌, ◌++◌, List, ℕ, length, false, Err, IsTrue, IsOk, IfOk, IfErr, OnOk, OnErr};
 ghost use Rattle.fr_record.specs.Disk.{MayLeave, IsDurable, Stands, written};
 ghost use Rattle.fr_record.specs.State.{record_at};
 ghost use Rattle.fr_record.specs.Moments.{Throughout, LeavesOnly};
@@ -7,15 +7,17 @@ ghost use Rattle.fr_record.specs.Fault.{met_device};
 ghost use Rattle.fr_record.specs.Failing.{FailsOnceMore};
 ghost use Rattle.fr_segment.specs.Opening.{IsOpening, HasGone};
 ghost use Rattle.fr_segment.specs.Group.{records_of};
-ghost use Rattle.fr_segment.specs.File.{Group, body, groups_from, AreShort, StandsFor, IsLeft, IsAtRest, guard, with_group, records_of_all};
+ghost use Rattle.fr_segment.specs.File.{Group, body, groups_from, AreShort, StandsFor, IsLeft, IsAtRest, behind, guard, with_group, records_of_all};
+
+mod other;
 
 use crate::gate::put;
 use crate::place::Place;
 use crate::read::{read_file, read_record};
-use crate::spell::{add_places, behind_gate, group_len, no_groups};
+use crate::spell::{add_places, behind_gate, group_len, no_groups, spelled_body};
 use fr_base::Bytes;
 use fr_record::{Device, DeviceFault, RecordFault};
-use std::alloc::Global;
+use std::alloc::{AllocError, Global};
 use std::marker::Model;
 
 /// A file of groups of records on a device. A group that was acknowledged is there after every crash, and a byte that is
@@ -128,16 +130,49 @@ impl<D: Device> Segment<D> {
         if group.is_empty() {
             return Ok(());
         }
-        let len = group_len(group);
         // Before memory is taken, so that a group without room is `Full` however little memory there is (invariant 9).
-        if !self.has_room(len + 22) {
+        if !self.has_room(group_len(group) + 22) {
             return Err(RecordFault::Full);
         }
-        let new = behind_gate(alloc, self.count, group)?;
+        let new = self.spelled(alloc, group)?;
+        self.put_group(group, &new)
+    }
+
+    /// The bytes that are put behind the closed gate for a group.
+    pub(crate) fn spelled(&self, alloc: Global, group: &[Vec<u8>]) -> Result<Vec<u8>, AllocError>
+        requires { length (body (records_of group.now)) < 2 ^ 32 }
+        ensures { IfOk result (λ bytes. bytes.items ≡ behind (length self.now.groups) (records_of group.now) ++ guard (length self.now.groups + 1)) }
+    {
+        // Each group takes bytes of the device, so the number of the next one is far below 2^64.
+        let _within = self.has_room(0);
+        let body = spelled_body(alloc, group)?;
+        behind_gate(alloc, self.count, &body)
+    }
+
+    /// Adds a group of at least one record, spelled as `new`, for which there is room. A refusal that is not the device's
+    /// changes nothing.
+    pub(crate) fn put_group(&mut self, group: &[Vec<u8>], new: &[u8]) -> Result<(), RecordFault>
+        requires works { self.old.is_failed ≡ false }
+        requires some { group.now ≢ [] }
+        requires short { length (body (records_of group.now)) < 2 ^ 32 }
+        requires bytes { new.now ≡ behind (length self.old.groups) (records_of group.now) ++ guard (length self.old.groups + 1) }
+        requires room { length (groups_from 0 self.old.groups) + length (body (records_of group.now)) + 24 ≤ D.capacity_of self.old.device }
+        ensures ok { OnOk result (self.new.groups ≡ self.old.groups ++ records_of group.now ∷ []) }
+        ensures kept { OnOk result (LeavesOnly D.Led D.disk (IsAtRest self.new.groups) self.new.device) }
+        ensures err { OnErr result (self.new.groups ≡ self.old.groups) }
+        ensures fails { self.new.is_failed ≡ met_device result }
+        ensures device { (result ≡ Err RecordFault.Device) → D.failures_of self.new.device ≡ min (D.failures_of self.old.device + 1) (2 ^ 64 - 1) }
+        ensures memory { (result ≡ Err RecordFault.Memory) → self.new ≡ self.old }
+        ensures only { IfErr result (λ fault. (fault ≡ RecordFault.Device) ⊎ (fault ≡ RecordFault.Memory)) }
+        ensures capacity { D.capacity_of self.new.device ≡ D.capacity_of self.old.device }
+        ensures no_failure { OnOk result (D.failures_of self.new.device ≡ D.failures_of self.old.device) }
+        ensures any_moment { Throughout D.Led D.disk (IsLeft self.old.groups (records_of group.now)) self.old.device self.new.device }
+    {
         // The places in the table first: once the gate is open the records count, and nothing may fail any more.
         self.table.reserve(group.len())?;
+        let len = group_len(group);
         let gate = self.end;
-        match put(&mut self.device, gate, &new) {
+        match put(&mut self.device, gate, new) {
             Ok(()) => {}
             Err(DeviceFault::Full) => unreachable!(),
             Err(DeviceFault::Device) => {

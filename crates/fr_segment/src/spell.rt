@@ -3,7 +3,7 @@ ghost use Rattle.std.specs.Prelude.{◌≡◌, ◌+◌, ◌-◌, ◌<◌, ◌≤
 ghost use Rattle.std.specs.Vec.{vec_capacity};
 ghost use Rattle.std.specs.Int.{w32, to_be_bytes};
 ghost use Rattle.fr_segment.specs.Crc.{sum_of};
-ghost use Rattle.fr_segment.specs.File.{body, behind, guard};
+ghost use Rattle.fr_segment.specs.File.{body, block, guard};
 ghost use Rattle.fr_segment.specs.Group.{records_of, places_of};
 
 use crate::crc::sum;
@@ -34,7 +34,7 @@ fn push_record(bytes: &mut Vec<u8>, payload: &[u8]) -> Result<(), AllocError>
 }
 
 /// The body of a group.
-fn spelled_body(alloc: Global, group: &[Vec<u8>]) -> Result<Vec<u8>, AllocError>
+pub(crate) fn spelled_body(alloc: Global, group: &[Vec<u8>]) -> Result<Vec<u8>, AllocError>
     requires { length (body (records_of group.now)) < 2 ^ 32 }
     ensures { IfOk result (λ bytes. bytes.items ≡ body (records_of group.now)) }
 {
@@ -69,24 +69,36 @@ pub(crate) fn no_groups() -> [u8; 10]
     [0, 0, 0, 0, 0, 0, wrong[0], wrong[1], wrong[2], wrong[3]]
 }
 
-/// What is written behind the closed gate for a group: its length and its records, each with a checksum, a closed gate, and
-/// a guard.
-pub(crate) fn behind_gate(
+/// The body of a group whose first record is a header.
+pub(crate) fn headed_body(
     alloc: Global,
-    number: u64,
+    header: &[u8],
     group: &[Vec<u8>],
 ) -> Result<Vec<u8>, AllocError>
-    requires short { length (body (records_of group.now)) < 2 ^ 32 }
-    requires next { number + 1 < 2 ^ 64 }
-    ensures { IfOk result (λ bytes. bytes.items ≡ behind number (records_of group.now) ++ guard (number + 1)) }
+    requires { length (body (header.now ∷ records_of group.now)) < 2 ^ 32 }
+    ensures { IfOk result (λ bytes. bytes.items ≡ body (header.now ∷ records_of group.now)) }
 {
-    let body = spelled_body(alloc, group)?;
+    let mut bytes = Vec::new(alloc);
+    push_record(&mut bytes, header)?;
+    for payload in group {
+        push_record(&mut bytes, payload)?;
+    }
+    Ok(bytes)
+}
+
+/// What is written behind the closed gate for a group of this body: its length and the body, each with a checksum, a closed
+/// gate, and a guard.
+pub(crate) fn behind_gate(alloc: Global, number: u64, body: &[u8]) -> Result<Vec<u8>, AllocError>
+    requires short { length body.now < 2 ^ 32 }
+    requires next { number + 1 < 2 ^ 64 }
+    ensures { IfOk result (λ bytes. bytes.items ≡ (block number body.now ++ 0 ∷ 0 ∷ []) ++ guard (number + 1)) }
+{
     let len = (body.len() as u32).to_be_bytes();
     let mut bytes = Vec::with_capacity(alloc, body.len() + 22)?;
     bytes.extend_from_slice(&len)?;
     bytes.extend_from_slice(&sum(number, &len).to_be_bytes())?;
-    bytes.extend_from_slice(&body)?;
-    bytes.extend_from_slice(&sum(number, &body).to_be_bytes())?;
+    bytes.extend_from_slice(body)?;
+    bytes.extend_from_slice(&sum(number, body).to_be_bytes())?;
     // In the same write as the group, so that the gate is never open before its end is there (invariant 2).
     bytes.extend_from_slice(&[0, 0])?;
     bytes.extend_from_slice(&guard(number + 1))?;

@@ -1,0 +1,5 @@
+use Rattle.fr_segment.proofs.TurnsLemmas.{one_pair}
+use Rattle.fr_segment.proofs.laws.pair_law.Goals as goal
+
+pub returns : goal.returns
+returns c = record { one_pair = one_pair }
