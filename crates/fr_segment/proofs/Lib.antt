@@ -27,3 +27,6 @@ mod Renewed
 mod FirstLemmas
 mod NextTurn
 mod Replacing
+mod Reopening
+mod OwnRecords
+mod ReopenFaults
