@@ -21,7 +21,7 @@ invariant_of-self g c =
 
 pub refused-requires : goal.refused-requires
 refused-requires g c =
-    only_trouble c.in-Err.fault (λ e. c.first.ensures.never_unmade (c.in-Err.is ∙ ap (λ f. Err f) e)) (λ e. own_current g.D.Device.Led g.D.Device.disk c.self.inside.current c.self.inside.other c.self.inside.number c.self.inside.identity c.self.inside.health c.self.invariant (subst (λ i. IsForeign i (g.D.Device.disk c.self.inside.current.device).content) c.as_slice.ensures (c.first.ensures.foreign (inr (c.in-Err.is ∙ ap (λ f. Err f) e))))) (λ e. own_current g.D.Device.Led g.D.Device.disk c.self.inside.current c.self.inside.other c.self.inside.number c.self.inside.identity c.self.inside.health c.self.invariant (subst (λ i. IsForeign i (g.D.Device.disk c.self.inside.current.device).content) c.as_slice.ensures (c.first.ensures.foreign (inl (c.in-Err.is ∙ ap (λ f. Err f) e)))))
+    record { only = only_trouble c.in-Err.fault (λ e. c.first.ensures.never_unmade (c.in-Err.is ∙ ap (λ f. Err f) e)) (λ e. own_current g.D.Device.Led g.D.Device.disk c.self.inside.current c.self.inside.other c.self.inside.number c.self.inside.identity c.self.inside.health c.self.invariant (subst (λ i. IsForeign i (g.D.Device.disk c.self.inside.current.device).content) c.as_slice.ensures (c.first.ensures.foreign (inr (c.in-Err.is ∙ ap (λ f. Err f) e))))) (λ e. own_current g.D.Device.Led g.D.Device.disk c.self.inside.current c.self.inside.other c.self.inside.number c.self.inside.identity c.self.inside.health c.self.invariant (subst (λ i. IsForeign i (g.D.Device.disk c.self.inside.current.device).content) c.as_slice.ensures (c.first.ensures.foreign (inl (c.in-Err.is ∙ ap (λ f. Err f) e))))) }
 
 pub invariant_of-self-in-Err-read_first : goal.invariant_of-self-in-Err-read_first
 invariant_of-self-in-Err-read_first g c =
@@ -29,7 +29,7 @@ invariant_of-self-in-Err-read_first g c =
 
 pub refused-requires-in-Err-read_first : goal.refused-requires-in-Err-read_first
 refused-requires-in-Err-read_first g c =
-    only_trouble c.in-Err-read_first.fault (λ e. c.read_first.ensures.never_unmade (c.in-Err-read_first.is ∙ ap (λ f. Err f) e)) (λ e. own_other g.D.Device.Led g.D.Device.disk c.self.inside.current c.self.inside.other c.self.inside.number c.self.inside.identity c.self.inside.health c.self.invariant (subst (λ i. IsForeign i (g.D.Device.disk c.self.inside.other).content) c.as_slice-2.ensures (c.read_first.ensures.foreign (inr (c.in-Err-read_first.is ∙ ap (λ f. Err f) e))))) (λ e. own_other g.D.Device.Led g.D.Device.disk c.self.inside.current c.self.inside.other c.self.inside.number c.self.inside.identity c.self.inside.health c.self.invariant (subst (λ i. IsForeign i (g.D.Device.disk c.self.inside.other).content) c.as_slice-2.ensures (c.read_first.ensures.foreign (inl (c.in-Err-read_first.is ∙ ap (λ f. Err f) e)))))
+    record { only = only_trouble c.in-Err-read_first.fault (λ e. c.read_first.ensures.never_unmade (c.in-Err-read_first.is ∙ ap (λ f. Err f) e)) (λ e. own_other g.D.Device.Led g.D.Device.disk c.self.inside.current c.self.inside.other c.self.inside.number c.self.inside.identity c.self.inside.health c.self.invariant (subst (λ i. IsForeign i (g.D.Device.disk c.self.inside.other).content) c.as_slice-2.ensures (c.read_first.ensures.foreign (inr (c.in-Err-read_first.is ∙ ap (λ f. Err f) e))))) (λ e. own_other g.D.Device.Led g.D.Device.disk c.self.inside.current c.self.inside.other c.self.inside.number c.self.inside.identity c.self.inside.health c.self.invariant (subst (λ i. IsForeign i (g.D.Device.disk c.self.inside.other).content) c.as_slice-2.ensures (c.read_first.ensures.foreign (inl (c.in-Err-read_first.is ∙ ap (λ f. Err f) e))))) }
 
 pub returns-in-Err-clause-current : goal.returns-in-Err-clause-current
 returns-in-Err-clause-current g c =
