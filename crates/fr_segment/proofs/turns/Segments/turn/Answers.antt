@@ -1,12 +1,10 @@
-use Rattle.std.proofs.Common.{rules, ◌≡◌, ◌⊎◌, inl, inr, ◌+◌, ◌-◌, ◌<◌, ◌^◌, min, ℕ, List, length, Ok, Err, Some, refl, sym, ap, subst, ◌∙◌, arith}
+use Rattle.std.proofs.Common.{◌≡◌, ◌⊎◌, inl, inr, ◌<◌, Ok, Err, Some, refl, sym, ap, subst, ◌∙◌, arith}
 use Rattle.fr_record.specs.Disk.{MayLeave, Stands}
 use Rattle.fr_record.specs.Moments.{Throughout}
 use Rattle.fr_record.specs.declared.fault.RecordFault.TheVariants as record_fault
-use Rattle.fr_segment.specs.declared.first.First.TheVariants.{Missing, Closed, File}
 use Rattle.fr_segment.specs.declared.first.Turn.TheVariants.{Former, Latter}
-use Rattle.fr_segment.specs.declared.open_fault.OpenFault.TheVariants as open_fault
 use Rattle.fr_segment.specs.Health.{failed_now, owed_by}
-use Rattle.fr_segment.specs.Turns.{BeginsWith, HoldsNothing, IsOlder, IsForeign, own_records}
+use Rattle.fr_segment.specs.Turns.{BeginsWith, IsOlder, IsForeign, own_records}
 use Rattle.fr_segment.specs.Way.{IsWay}
 use Rattle.fr_segment.proofs.Crash.{stands_leaves}
 use Rattle.fr_segment.proofs.FirstLemmas.{only_trouble, first_is}

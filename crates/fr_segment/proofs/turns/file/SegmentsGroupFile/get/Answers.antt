@@ -1,4 +1,4 @@
-use Rattle.std.proofs.Common.{◌≡◌, ◌+◌, ◌≤◌, false, length, Err, refl, sym, ap, subst, ◌∙◌, arith}
+use Rattle.std.proofs.Common.{◌≡◌, ◌≤◌, false, length, Err, refl, sym, ap, subst, ◌∙◌, arith}
 use Rattle.fr_record.specs.State.{record_at}
 use Rattle.fr_segment.specs.declared.health.Health.TheVariants.{Failed}
 use Rattle.fr_segment.specs.File.{records_of_all}

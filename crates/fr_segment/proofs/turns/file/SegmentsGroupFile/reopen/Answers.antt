@@ -1,4 +1,4 @@
-use Rattle.std.proofs.Common.{◌≡◌, ◌⊎◌, inr, ◌+◌, ◌-◌, ◌<◌, ◌^◌, min, ℕ, false, Some, None, Ok, Err, sym, ap, subst, ◌∙◌, arith}
+use Rattle.std.proofs.Common.{◌≡◌, ◌⊎◌, inr, ◌<◌, ℕ, false, Some, None, Ok, Err, sym, ap, subst, ◌∙◌, arith}
 use Rattle.std.specs.Prelude.{OnOk, OnErr}
 use Rattle.fr_record.specs.declared.fault.RecordFault.TheVariants.{Device, Full, Failed, Broken}
 use Rattle.fr_segment.specs.declared.health.Health.TheVariants.{Works}

@@ -1,6 +1,6 @@
-use Rattle.std.proofs.Common.{rules, ◌≡◌, ◌⊎◌, ◌+◌, ◌-◌, min, ◌<◌, ◌≤◌, ◌^◌, ◌++◌, ◌∷◌, [], List, ℕ, false, length, drop, Some, refl, sym, ap, subst, ◌∙◌, arith}
+use Rattle.std.proofs.Common.{rules, ◌≡◌, ◌⊎◌, ◌+◌, ◌-◌, min, ◌<◌, ◌≤◌, ◌^◌, ◌++◌, ◌∷◌, [], false, length, drop, Some, refl, sym, ap, subst, ◌∙◌, arith}
 use Rattle.fr_segment.specs.declared.health.Health.TheVariants.{Replacing}
-use Rattle.fr_segment.specs.File.{body, behind, guard, groups_from}
+use Rattle.fr_segment.specs.File.{body, behind, guard}
 use Rattle.fr_segment.specs.Group.{records_of}
 use Rattle.fr_segment.specs.Header.{header}
 use Rattle.fr_segment.specs.Health.{has_failed, group_of, AreInTurn}
