@@ -27,3 +27,5 @@ mod Renewed
 mod FirstLemmas
 mod NextTurn
 mod Replacing
+mod OpenRun
+mod Opened
