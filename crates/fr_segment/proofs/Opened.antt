@@ -1,11 +1,14 @@
 -- A pair that was just opened or made, and devices that hold none.
 use Rattle.std.proofs.Common.{◌≡◌, ◌⊎◌, inl, inr, ℕ, ◌+◌, ◌<◌, ◌≤◌, ◌^◌, false, List, [], ◌∷◌, ◌++◌, length, get_or, drop, refl, sym, ap, ◌∙◌, subst, arith}
 use Rattle.fr_record.specs.Disk.{Disk, MayLeave, IsDurable, written}
+use Rattle.std.specs.Prelude.{Result, Ok, Err, IfOk, OnErr}
 use Rattle.fr_segment.specs.declared.first.First.{First}
 use Rattle.fr_segment.specs.declared.first.First.TheVariants.{Missing, Closed, File}
 use Rattle.fr_segment.specs.declared.first.Turn.{Turn}
 use Rattle.fr_segment.specs.declared.first.Turn.TheVariants.{Former, Latter}
 use Rattle.fr_segment.specs.declared.health.Health.TheVariants.{Works}
+use Rattle.fr_segment.specs.declared.open_fault.OpenFault.{OpenFault}
+use Rattle.fr_segment.specs.declared.open_fault.OpenFault.TheVariants.{Unmade, Stranger, Broken}
 use Rattle.fr_segment.specs.File.{Group, body, guard, StandsFor, IsAtRest}
 use Rattle.fr_segment.specs.First.{IsBelow, IsTurn, IsVacant}
 use Rattle.fr_segment.specs.Header.{header}
@@ -14,7 +17,7 @@ use Rattle.fr_segment.specs.State.{SegmentFile}
 use Rattle.fr_segment.specs.Turns.{IsHeaded, own_records, led_by, BeginsWith, HoldsNothing, IsBlank, IsOlder, AreTurns, PairStandsFor, IsForeign}
 use Rattle.fr_segment.proofs.Crash.{durable_leaves}
 use Rattle.fr_segment.proofs.FileLemmas.{block_once}
-use Rattle.fr_segment.proofs.FirstLemmas.{first_is, first_closed}
+use Rattle.fr_segment.proofs.FirstLemmas.{first_is, first_closed, below_older}
 use Rattle.fr_segment.proofs.Replacing.{length-header}
 use Rattle.fr_segment.proofs.TurnsLemmas.{led_long, led_once, begins_once, never_both, headed_begins}
 
@@ -98,6 +101,25 @@ pub record IsReading (identity file : List ℕ) (first : First) : Type 0 where
   pub closed : first ≡ Closed → HoldsNothing file
   pub begins : (n : ℕ) → first ≡ File n → BeginsWith n identity file
 
+pub reading : (whose identity file : List ℕ) (result : Result First OpenFault) (first : First) → whose ≡ identity → result ≡ Ok first → (result ≡ Ok Missing → length file < 2) → (result ≡ Ok Closed → HoldsNothing file) → ((n : ℕ) → result ≡ Ok (File n) → BeginsWith n whose file)
+    → IsReading identity file first
+reading whose identity file result first same is missing closed begins = record {
+  missing = λ e. missing (is ∙ ap (λ f. Ok f) e);
+  closed = λ e. closed (is ∙ ap (λ f. Ok f) e);
+  begins = λ n e. subst (λ l. BeginsWith n l file) same (begins n (is ∙ ap (λ f. Ok f) e));
+}
+
+-- a device that was read, and the other one beside it
+pub turn_begins : (n : ℕ) (identity file now : List ℕ) (first : First) → now ≡ file → IsReading identity file first → first ≡ File n → BeginsWith n identity now
+turn_begins n identity file now first same reading is = subst (λ l. BeginsWith n identity l) (sym same) (reading.begins n is)
+
+pub turn_older : (n : ℕ) (identity file now : List ℕ) (first : First) → now ≡ file → IsReading identity file first → IsBelow n first → IsOlder n identity now
+turn_older n identity file now first same reading below = subst (λ l. IsOlder n identity l) (sym same) (below_older n identity file first below reading.closed reading.begins)
+
+-- the same bytes stand for the same records
+pub pair_so : (identity : List ℕ) (records : List (List ℕ)) (a b now_a now_b : List ℕ) → now_a ≡ a → now_b ≡ b → PairStandsFor identity records now_a now_b → PairStandsFor identity records a b
+pair_so identity records a b now_a now_b same_a same_b pair = subst (λ l. PairStandsFor identity records l b) same_a (subst (λ l. PairStandsFor identity records now_a l) same_b pair)
+
 older_below : (l : ℕ) (identity file : List ℕ) (first : First) → IsReading identity file first → IsOlder l identity file → IsBelow l first
 older_below l identity file first reading (inl nothing) = subst (λ f. IsBelow l f) (sym (first_closed identity file nothing first reading.missing reading.begins)) tt
 older_below l identity file first reading (inr older) = subst (λ f. IsBelow l f) (sym (first_is older.0 identity file older.2 first reading.missing reading.closed reading.begins)) older.1
@@ -118,3 +140,29 @@ pub vacant_blank : (identity file : List ℕ) (first : First) → IsReading iden
 vacant_blank identity file Missing reading vacant = inl (reading.missing refl)
 vacant_blank identity file Closed reading vacant = inr (reading.closed refl)
 vacant_blank identity file (File n) reading vacant = absurd vacant
+
+-- a device that was refused holds nothing that is a pair's
+pub refused_foreign : (whose identity file : List ℕ) (result : Result First OpenFault) (fault : OpenFault) → whose ≡ identity → result ≡ Err fault → (result ≡ Err Unmade → ⊥) → ((result ≡ Err Broken) ⊎ (result ≡ Err Stranger) → IsForeign whose file)
+    → (fault ≡ Unmade) ⊎ (fault ≡ Stranger) ⊎ (fault ≡ Broken) → IsForeign identity file
+refused_foreign whose identity file result fault same is never foreign (inl e) = absurd (never (is ∙ ap (λ f. Err f) e))
+refused_foreign whose identity file result fault same is never foreign (inr (inl e)) = subst (λ l. IsForeign l file) same (foreign (inr (is ∙ ap (λ f. Err f) e)))
+refused_foreign whose identity file result fault same is never foreign (inr (inr e)) = subst (λ l. IsForeign l file) same (foreign (inl (is ∙ ap (λ f. Err f) e)))
+
+-- ---- what an answer tells
+pub ok_both : {X E : Type 0} (r : Result X E) (P Q R : X → Type 0) → ((x : X) → P x → Q x → R x) → IfOk r P → IfOk r Q → IfOk r R
+ok_both (Ok x) P Q R joins p q = joins x p q
+ok_both (Err e) P Q R joins p q = tt
+
+pub err_so : {X E : Type 0} (r : Result X E) (T U : Type 0) → (T → U) → OnErr r T → OnErr r U
+err_so (Ok x) T U so t = tt
+err_so (Err e) T U so t = so t
+
+pub same_faults : {X E : Type 0} (e a b d : E) → (◌≡◌ {A = Result X E} (Err e) (Err a)) ⊎ (◌≡◌ {A = Result X E} (Err e) (Err b)) ⊎ (◌≡◌ {A = Result X E} (Err e) (Err d)) → (e ≡ a) ⊎ (e ≡ b) ⊎ (e ≡ d)
+same_faults e a b d (inl x) = inl (cc x)
+same_faults e a b d (inr (inl x)) = inr (inl (cc x))
+same_faults e a b d (inr (inr x)) = inr (inr (cc x))
+
+pub third_alone : {X E : Type 0} (r : Result X E) (a b d : E) → (r ≡ Err a → ⊥) → (r ≡ Err b → ⊥) → (r ≡ Err a) ⊎ (r ≡ Err b) ⊎ (r ≡ Err d) → r ≡ Err d
+third_alone r a b d not_a not_b (inl e) = absurd (not_a e)
+third_alone r a b d not_a not_b (inr (inl e)) = absurd (not_b e)
+third_alone r a b d not_a not_b (inr (inr e)) = e
