@@ -10,11 +10,11 @@ use Rattle.fr_segment.specs.declared.health.Health.TheVariants.{Works}
 use Rattle.fr_segment.specs.declared.open_fault.OpenFault.{OpenFault}
 use Rattle.fr_segment.specs.declared.open_fault.OpenFault.TheVariants.{Unmade, Stranger, Broken}
 use Rattle.fr_segment.specs.File.{Group, body, guard, StandsFor, IsAtRest}
-use Rattle.fr_segment.specs.First.{IsBelow, IsTurn, IsVacant}
+use Rattle.fr_segment.specs.First.{IsBelow, IsTurn}
 use Rattle.fr_segment.specs.Header.{header}
 use Rattle.fr_segment.specs.Health.{AreInTurn}
 use Rattle.fr_segment.specs.State.{SegmentFile}
-use Rattle.fr_segment.specs.Turns.{IsHeaded, own_records, led_by, BeginsWith, HoldsNothing, IsBlank, IsOlder, AreTurns, PairStandsFor, IsForeign}
+use Rattle.fr_segment.specs.Turns.{IsHeaded, own_records, led_by, BeginsWith, HoldsNothing, IsOlder, AreTurns, PairStandsFor, IsForeign}
 use Rattle.fr_segment.proofs.Crash.{durable_leaves}
 use Rattle.fr_segment.proofs.FileLemmas.{block_once}
 use Rattle.fr_segment.proofs.FirstLemmas.{first_is, first_closed, below_older}
@@ -135,11 +135,6 @@ no_turn identity records a b former latter one two none pair = go pair.turns
     go (inr x) =
         let begins = headed_begins pair.number identity pair.groups b x.small x.headed x.stands in
         none (Latter pair.number) (first_is pair.number identity b begins latter two.missing two.closed two.begins, older_below pair.number identity a former one x.older)
-
-pub vacant_blank : (identity file : List ℕ) (first : First) → IsReading identity file first → IsVacant first → IsBlank file
-vacant_blank identity file Missing reading vacant = inl (reading.missing refl)
-vacant_blank identity file Closed reading vacant = inr (reading.closed refl)
-vacant_blank identity file (File n) reading vacant = absurd vacant
 
 -- a device that was refused holds nothing that is a pair's
 pub refused_foreign : (whose identity file : List ℕ) (result : Result First OpenFault) (fault : OpenFault) → whose ≡ identity → result ≡ Err fault → (result ≡ Err Unmade → ⊥) → ((result ≡ Err Broken) ⊎ (result ≡ Err Stranger) → IsForeign whose file)
