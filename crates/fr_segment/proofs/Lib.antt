@@ -30,3 +30,5 @@ mod Replacing
 mod Reopening
 mod OwnRecords
 mod ReopenFaults
+mod OpenRun
+mod Opened
