@@ -1,0 +1,4 @@
+pub mod Leading
+pub mod Room
+pub mod Node
+pub mod CellBack

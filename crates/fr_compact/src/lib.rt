@@ -1,0 +1,27 @@
+//! Nodes whose files let go of what their machines no longer need.
+//!
+//! A record file grows with each ask, and most of its records say what later ones changed again. So a node puts, in the
+//! place of all of them, the few that spell the state of its machine (`Compact`).
+//!
+//! # Invariants
+//!
+//! Lines that rely on one of these cite its number.
+//!
+//! 1. The records of the file lead the machine, as it was before it was asked anything, to its state (`IsNode`). Which
+//!    records do so is nothing that a caller sees. So others that lead to the same state can take their place.
+//! 2. What is spelled is the state before the asks that lack room, and never one that they were already taken into.
+//!    Otherwise a crash could leave asks that were never answered, and a refusal could not go back before them.
+//! 3. A failed device leaves the file with its records or with those that it owes. If asks were in flight those are its
+//!    records and then the asks' (`flying`). Otherwise they lead to the state too, and no ask was written (`resting`).
+//!    So `reopen` answers `After` only if asks were in flight and the file is found longer.
+//! 4. The file lets go in an ask only if what stays takes half of the next room at most. Otherwise a state that nearly
+//!    fills the file would be written anew at each of the few asks for which there is room.
+#![tactic(auto)]
+
+mod cell;
+mod compact;
+mod compact_node;
+mod fault;
+
+pub use compact::Compact;
+pub use compact_node::CompactNode;
