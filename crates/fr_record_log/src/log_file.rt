@@ -34,7 +34,7 @@ impl Model for FileLog {
 }
 
 impl FileLog {
-    /// This log. A file stands for it only if its records lead a log that was never asked to it.
+    /// This log, in the state in which it is. A new file begins with `fresh` instead: its records are read from there.
     pub fn new(log: Log) -> Self
         ensures { result ≡ log }
     {
