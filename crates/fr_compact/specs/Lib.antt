@@ -1,4 +1,3 @@
 pub mod Leading
 pub mod Room
 pub mod Node
-pub mod CellBack
