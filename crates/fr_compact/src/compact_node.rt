@@ -6,7 +6,7 @@ ghost use Rattle.fr_record_node.specs.Several.{after_all, told_all, written_all}
 ghost use Rattle.fr_record_node.specs.Replay.{replayed};
 ghost use Rattle.fr_record_node.specs.Node.{is_trouble};
 ghost use Rattle.fr_compact.specs.Leading.{LeadsTo};
-ghost use Rattle.fr_compact.specs.Room.{HasNoRoom, spare_all};
+ghost use Rattle.fr_compact.specs.Room.{HasNoRoom, HasSpare, spare_all};
 
 mod held;
 mod letting_go;
@@ -116,9 +116,10 @@ where
 
     /// Answers asks in order as the plain machine does, with all their records in one group: after a crash all of it
     /// is there, or nothing. As many bytes stay free behind it as any of the asks leaves free (`Compact::spare`). If the
-    /// file lacks room it lets go first. If no ask changes anything, as in an empty list, the file stays as it is.
-    /// Memory holds the records of all asks at once, and a copy of each ask; while the file lets go, the records of the
-    /// state.
+    /// file lacks room it lets go first, and `Full` says that there would be none behind the records of the state either:
+    /// how long a list may be depends on these. If no ask changes anything, as in an empty list, the file stays as it
+    /// is. Memory holds the records of all asks at once, and a copy of each ask; while the file lets go, the records of
+    /// the state.
     pub fn serve_all(&mut self, alloc: Global, asks: Vec<M::Ask>) -> Result<Vec<M::Tell>, NodeFault>
         ensures told { IfOk result (λ tells. tells.items ≡ told_all M.after M.told self.old.machine asks.items) }
         ensures after { OnOk result (self.new.machine ≡ after_all M.after self.old.machine asks.items) }
@@ -132,6 +133,8 @@ where
         ensures full { (result ≡ Err NodeFault.Full)
             → HasNoRoom F.room F.used F.next_room F.front self.old.file (M.spelled self.old.machine)
             (written_all M.after M.written self.old.machine asks.items) (spare_all M.spare asks.items) }
+        ensures spare { OnOk result (written_all M.after M.written self.old.machine asks.items ≢ []
+            → HasSpare F.room F.used self.new.file (spare_all M.spare asks.items)) }
         ensures owes { (result ≡ Err NodeFault.Device) → self.new.owed ≡ Some (after_all M.after self.old.machine asks.items) }
         ensures owes_still { result ≢ Err NodeFault.Device → self.new.owed ≡ self.old.owed }
         ensures trouble { IfErr result (λ fault. fault ≢ NodeFault.Failed → IsTrue (is_trouble fault)) }
@@ -266,6 +269,7 @@ where
         ensures full { (result ≡ Err NodeFault.Full)
             → HasNoRoom F.room F.used F.next_room F.front self.old.file (M.spelled self.old.machine)
             (M.written self.old.machine ask) (M.spare ask) }
+        ensures spare { OnOk result (M.written self.old.machine ask ≢ [] → HasSpare F.room F.used self.new.file (M.spare ask)) }
         ensures owes { (result ≡ Err NodeFault.Device) → self.new.owed ≡ Some (M.after self.old.machine ask) }
         ensures owes_still { result ≢ Err NodeFault.Device → self.new.owed ≡ self.old.owed }
         ensures trouble { IfErr result (λ fault. fault ≢ NodeFault.Failed → IsTrue (is_trouble fault)) }

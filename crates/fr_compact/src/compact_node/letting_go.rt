@@ -82,7 +82,8 @@ pub(super) fn make_room<M: Compact, F: GroupFile>(
     let taken = group_len(state.as_slice())
         .saturating_add(sizes.front)
         .saturating_add(24);
-    // At most half, or a state that nearly fills the file is written anew at each ask (invariant 4).
+    // At most half, or a state that nearly fills the file is written anew at each ask (invariant 4). An ask that leaves
+    // no bytes free may be the one that makes the state shorter (invariant 5).
     if spare > 0 && taken > sizes.next_room / 2 {
         return Err(NodeFault::Full);
     }

@@ -5,7 +5,7 @@ ghost use Rattle.fr_record_node.specs.Several.{after_all, told_all, written_all}
 ghost use Rattle.fr_record_node.specs.Replay.{replayed};
 ghost use Rattle.fr_record_node.specs.Node.{is_trouble};
 ghost use Rattle.fr_compact.specs.Leading.{LeadsTo};
-ghost use Rattle.fr_compact.specs.Room.{IsFullFor, IsNoHelp, HasNoRoom, spare_all};
+ghost use Rattle.fr_compact.specs.Room.{IsFullFor, IsNoHelp, HasNoRoom, HasSpare, spare_all};
 ghost use Rattle.fr_compact.specs.Node.{met_fault, LeavesOwn};
 
 use crate::compact::Compact;
@@ -38,6 +38,7 @@ where
     ensures replays { replayed M.replay (Some (M.fresh machine.new)) (F.records file.new) ≡ Some machine.new }
     ensures sound { M.IsSound machine.new }
     ensures kept { OnOk result (F.Throughout (λ rs. rs ≡ F.records file.new) file.new file.new) }
+    ensures spare { OnOk result (written_all M.after M.written machine.old asks.now ≢ [] → HasSpare F.room F.used file.new spare) }
     ensures still { written_all M.after M.written machine.old asks.now ≡ [] → file.new ≡ file.old }
     ensures err { OnErr result (machine.new ≡ machine.old) }
     ensures err_records { OnErr result (F.records file.new ≡ F.records file.old) }
@@ -97,6 +98,7 @@ where
     ensures replays { replayed M.replay (Some (M.fresh machine.new)) (F.records file.new) ≡ Some machine.new }
     ensures sound { M.IsSound machine.new }
     ensures kept { OnOk result (F.Throughout (λ rs. rs ≡ F.records file.new) file.new file.new) }
+    ensures spare { OnOk result (written_all M.after M.written machine.old asks.now ≢ [] → HasSpare F.room F.used file.new spare) }
     ensures err { OnErr result (machine.new ≡ machine.old) }
     ensures fails { F.is_failed file.new ≡ met_fault result }
     ensures device { IfErr result (λ unserved. (unserved.fault ≡ NodeFault.Device)
@@ -163,6 +165,7 @@ where
     ensures replays { replayed M.replay (Some (M.fresh machine.new)) (F.records file.new) ≡ Some machine.new }
     ensures sound { M.IsSound machine.new }
     ensures kept { OnOk result (F.Throughout (λ rs. rs ≡ F.records file.new) file.new file.new) }
+    ensures spare { OnOk result (written_all M.after M.written machine.old asks.now ≢ [] → HasSpare F.room F.used file.new spare) }
     ensures still { written_all M.after M.written machine.old asks.now ≡ [] → file.new ≡ file.old }
     ensures err { OnErr result (machine.new ≡ machine.old) }
     ensures fails { F.is_failed file.new ≡ met_fault result }
