@@ -1,3 +1,4 @@
 pub mod Leading
 pub mod Room
+pub mod LogSpare
 pub mod Node

@@ -24,7 +24,10 @@ mod cell;
 mod compact;
 mod compact_node;
 mod fault;
+mod log;
+mod log_node;
 
 pub use cell::CompactCell;
 pub use compact::Compact;
 pub use compact_node::CompactNode;
+pub use log_node::CompactLog;
