@@ -26,6 +26,10 @@ mod compact_node;
 mod fault;
 mod log;
 mod log_node;
+#[cfg(test)]
+mod tests;
+#[cfg(test)]
+mod tests_logs;
 
 pub use cell::CompactCell;
 pub use compact::Compact;
