@@ -9,3 +9,5 @@ pub mod Pushing
 pub mod Popping
 pub mod Leading
 pub mod Tagged
+pub mod Held
+pub mod Putting

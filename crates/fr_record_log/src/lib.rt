@@ -29,6 +29,7 @@ mod limits;
 mod log_file;
 mod log_node;
 mod reading;
+mod spelled;
 mod spelling;
 
 pub use log_node::LogNode;

@@ -1,0 +1,82 @@
+-- The records of a log's whole state, put into a group one after the other.
+use Rattle.std.proofs.Common.{◌≡◌, ℕ, ◌+◌, ◌<◌, Bool, true, false, List, [], ◌∷◌, ◌++◌, length, get_or, map, take, Option, Some, None, Ok, Err, Result, Vec, Global, refl, sym, ap, subst, ◌∙◌, append_assoc, arith}
+use Rattle.std.specs.Prelude.{IfOk}
+use Rattle.std.proofs.lemmas.List.{append-nil, map-append, take_more, get_or-map, length-map}
+use Rattle.fr_base.specs.declared.memory.Memory.{Memory}
+use Rattle.fr_mutation.specs.declared.mutation.Mutation.{Mutation}
+use Rattle.fr_tags.specs.declared.body.Body.{Body}
+use Rattle.fr_record.specs.Group.{records_of}
+use Rattle.fr_log.specs.declared.pushes.header.PushNumbers.{PushNumbers}
+use Rattle.fr_log.specs.Seed.{SeedContent}
+use Rattle.fr_log.specs.Push.{PushContent}
+use Rattle.fr_log.specs.Pushes.{batch_at, pushed_batches, pushed_numbers}
+use Rattle.fr_log.specs.LogState.{LogState}
+use Rattle.fr_record_log.specs.Spelling.{spelled_head, spelled_seeded, spelled_push}
+use Rattle.fr_record_log.specs.Spelled.{body_of, spelled_tag, spelled_stop, spelled_from, spelled_log}
+
+-- ---- the body of one tag
+
+pub one_body : (old new : List Body) (tag n version : ℕ) (ps : List PushContent) (b copy : List Mutation) → tag ≡ n → Some b ≡ batch_at version (pushed_batches tag ps) → copy ≡ b → new ≡ old ++ record { tag = tag; batch = copy } ∷ []
+    → new ≡ old ++ body_of n (batch_at version (pushed_batches n ps))
+one_body old new tag n version ps b copy same there equal e =
+    let at : batch_at version (pushed_batches n ps) ≡ Some copy = ap (λ t. batch_at version (pushed_batches t ps)) (sym same) ∙ sym there ∙ ap Some (sym equal) in
+    rw at (e ∙ ap (λ t. old ++ record { tag = t; batch = copy } ∷ []) same)
+
+pub no_body : (old : List Body) (tag n version : ℕ) (ps : List PushContent) → tag ≡ n → None ≡ batch_at version (pushed_batches tag ps) → old ≡ old ++ body_of n (batch_at version (pushed_batches n ps))
+no_body old tag n version ps same there =
+    let at : batch_at version (pushed_batches n ps) ≡ None = ap (λ t. batch_at version (pushed_batches t ps)) (sym same) ∙ sym there in
+    rw at (sym (append-nil old))
+
+-- ---- the pushes
+
+-- the numbers at an index are those of the push there
+pub numbers_at : (list : List PushNumbers) (ps : List PushContent) (i : ℕ) (n e : PushNumbers) → list ≡ map pushed_numbers ps → i < length ps → n ≡ get_or list i e → (d : PushContent) → n ≡ pushed_numbers (get_or ps i d)
+numbers_at list ps i n e all within is d = is ∙ ap (λ xs. get_or xs i e) all ∙ get_or-map pushed_numbers ps i d e within
+
+-- with an index that is 0
+pub at_first : (ps : List PushContent) (i : ℕ) (n : PushNumbers) → i ≡ 0 → ((d : PushContent) → n ≡ pushed_numbers (get_or ps i d)) → (d : PushContent) → n ≡ pushed_numbers (get_or ps 0 d)
+at_first ps i n zero is d = is d ∙ ap (λ k. pushed_numbers (get_or ps k d)) zero
+
+pub from_first : (ps : List PushContent) (i : ℕ) (r : Result PushContent Memory) → i ≡ 0 → IfOk r (λ p. (d : PushContent) → p ≡ get_or ps 0 d) → IfOk r (λ p. (d : PushContent) → p ≡ get_or ps i d)
+from_first ps i (Ok p) zero is = λ d. is d ∙ ap (λ k. get_or ps k d) (sym zero)
+from_first ps i (Err f) zero is = is
+
+-- what was made is the push
+pub ok_made : (ps : List PushContent) (i : ℕ) (r : Result PushContent Memory) (x y : PushContent) → IfOk r (λ p. p ≡ x) → x ≡ y → ((d : PushContent) → y ≡ get_or ps i d) → IfOk r (λ p. (d : PushContent) → p ≡ get_or ps i d)
+ok_made ps i (Ok p) x y is same at = λ d. is ∙ same ∙ at d
+ok_made ps i (Err f) x y is same at = is
+
+-- one push more
+pub one_pushed : (before : List (List ℕ)) (group : List (Vec ℕ Global)) (v : Vec ℕ Global) (ps : List PushContent) (p : PushContent) (i : ℕ) → records_of group ≡ before ++ map spelled_push (take i ps) → i < length ps
+    → ((d : PushContent) → p ≡ get_or ps i d) → v.items ≡ spelled_push p → records_of (group ++ v ∷ []) ≡ before ++ map spelled_push (take (i + 1) ps)
+one_pushed before group v ps p i so_far within is bytes =
+    let here : get_or ps i p ≡ p = sym (is p) in
+    let more : map spelled_push (take (i + 1) ps) ≡ map spelled_push (take i ps) ++ spelled_push p ∷ [] =
+    ap (map spelled_push) (take_more ps i p within ∙ ap (λ x. take i ps ++ x ∷ []) here) ∙ map-append spelled_push (take i ps) (p ∷ []) in
+    map-append (λ (w : Vec ℕ Global). w.items) group (v ∷ []) ∙ ap (λ xs. xs ++ v.items ∷ []) so_far ∙ append_assoc before (map spelled_push (take i ps)) (v.items ∷ [])
+    ∙ ap (λ xs. before ++ xs) (ap (λ x. map spelled_push (take i ps) ++ x ∷ []) bytes ∙ sym more)
+
+-- ---- the lock
+
+pub no_stop : (records : List (List ℕ)) (b : Bool) → b ≡ false → records ≡ records ++ spelled_stop b
+no_stop records b e = rw e (sym (append-nil records))
+
+pub one_stop : (group : List (Vec ℕ Global)) (v : Vec ℕ Global) (b : Bool) → b ≡ true → v.items ≡ 5 ∷ [] → records_of (group ++ v ∷ []) ≡ records_of group ++ spelled_stop b
+one_stop group v b e bytes = rw e (map-append (λ (w : Vec ℕ Global). w.items) group (v ∷ []) ∙ ap (λ x. records_of group ++ x ∷ []) bytes)
+
+-- ---- all of them
+
+regroup : (h : List ℕ) (a b c d : List (List ℕ)) → ((((h ∷ []) ++ a) ++ b) ++ c) ++ d ≡ h ∷ (a ++ (b ++ (c ++ d)))
+regroup h a b c d = simp append_assoc
+
+pub all_of : (l : LogState) (s : SeedContent) (r1 r2 r3 r4 r5 : List (List ℕ)) → Some s ≡ l.seed → r1 ≡ spelled_head l s ∷ [] → r2 ≡ r1 ++ map spelled_seeded s.records → r3 ≡ r2 ++ map spelled_push l.pushes
+    → r4 ≡ r3 ++ map spelled_tag l.popped → r5 ≡ r4 ++ spelled_stop l.stopped → r5 ≡ spelled_log l
+all_of l s r1 r2 r3 r4 r5 is a b c d e =
+    rw (e, d, c, b, a) (regroup (spelled_head l s) (map spelled_seeded s.records) (map spelled_push l.pushes) (map spelled_tag l.popped) (spelled_stop l.stopped) ∙ ap (λ o. spelled_from o l) is)
+
+pub none_of_log : (l : LogState) (records : List (List ℕ)) → records ≡ [] → None ≡ l.seed → records ≡ spelled_log l
+none_of_log l records e is = e ∙ ap (λ o. spelled_from o l) is
+
+-- the numbers are as many as the pushes
+pub within_map : (list : List PushNumbers) (ps : List PushContent) (i : ℕ) → list ≡ map pushed_numbers ps → i < length list → i < length ps
+within_map list ps i all less = omega (arith, ap length all, length-map ps pushed_numbers, less)

@@ -1,0 +1,230 @@
+//! The records of a log's whole state.
+ghost use Rattle.std.specs.Prelude.{◌≡◌, ◌<◌, ◌≤◌, ◌+◌, ◌^◌, ◌++◌, [], None, Some, length, map, slice_index_or, All, IfOk, OnOk};
+ghost use Rattle.fr_record.specs.Group.{records_of};
+ghost use Rattle.fr_log.specs.Push.{PushContent, IsPush};
+ghost use Rattle.fr_log.specs.Pushes.{pushed_numbers, pushed_batches, batch_at};
+ghost use Rattle.fr_record_log.specs.LogFile.{IsSettledLog};
+ghost use Rattle.fr_record_log.specs.Spelling.{spelled_push};
+ghost use Rattle.fr_record_log.specs.Spelled.{spelled_tag, spelled_stop, spelled_log, tagged, body_of};
+
+use crate::limits::push_within_limits;
+use crate::reading::{tag_of, version_of};
+use crate::spelling::{head, lock, popped, pushed, put_records};
+use fr_base::{Epoch, Memory, Version};
+use fr_log::{Log, PoppedTag, Push, PushNumbers, Seed};
+use fr_state::CoordState;
+use fr_tags::Body;
+use std::alloc::Global;
+
+/// The records of a log's whole state: what is left of its seed and of its pushes, how far its tags are popped, and its
+/// lock. It costs what the records take, and puts one push at a time together.
+pub(crate) fn spelled(alloc: Global, log: &Log) -> Result<Vec<Vec<u8>>, Memory>
+    requires { IsSettledLog log.now }
+    ensures records { IfOk result (λ group. records_of group.items ≡ spelled_log log.now) }
+    ensures short { IfOk result (λ group. All (λ v. length v.items < 2 ^ 32) group.items) }
+{
+    match log.seed() {
+        Some(seed) => spelled_from(alloc, log, seed),
+        // A log that was never seeded has nothing else, and no record stands for it (invariant 1).
+        None => Ok(Vec::new(alloc)),
+    }
+}
+
+/// The records of a log that has a seed.
+fn spelled_from(alloc: Global, log: &Log, seed: &Seed) -> Result<Vec<Vec<u8>>, Memory>
+    requires log { IsSettledLog log.now }
+    requires seed { Some seed.now ≡ log.now.seed }
+    ensures records { IfOk result (λ group. records_of group.items ≡ spelled_log log.now) }
+    ensures short { IfOk result (λ group. All (λ v. length v.items < 2 ^ 32) group.items) }
+{
+    let mut group = Vec::new(alloc);
+    group.push(head(alloc, log, seed)?)?;
+    // The whole seed first: a log takes no record of a seed behind a push (invariant 2).
+    put_records(&mut group, alloc, seed.records())?;
+    let numbers = log.numbers(alloc)?;
+    put_pushes(&mut group, alloc, log, &numbers)?;
+    // Behind the pushes, which tell what is known: a tag is popped no further (invariant 2).
+    put_tags(&mut group, alloc, log.popped().as_slice())?;
+    // Last, because a locked log takes no push.
+    put_lock(&mut group, alloc, log.stopped())?;
+    Ok(group)
+}
+
+/// Adds the records of a log's pushes to a group, of which the numbers are at hand: the mark first.
+fn put_pushes(
+    group: &mut Vec<Vec<u8>>,
+    alloc: Global,
+    log: &Log,
+    numbers: &[PushNumbers],
+) -> Result<(), Memory>
+    requires log { IsSettledLog log.now }
+    requires numbers { numbers.now ≡ map pushed_numbers log.now.pushes }
+    requires short { All (λ v. length v.items < 2 ^ 32) group.old.items }
+    ensures records { OnOk result (records_of group.new.items ≡ records_of group.old.items ++ map spelled_push log.now.pushes) }
+    ensures short { OnOk result (All (λ v. length v.items < 2 ^ 32) group.new.items) }
+{
+    for index in 0..numbers.len() {
+        let held = push_at(alloc, log, index, numbers[index])?;
+        push_within_limits(&held);
+        group.push(pushed(alloc, &held)?)?;
+    }
+    Ok(())
+}
+
+/// The push of a log at an index, of which the numbers are at hand.
+fn push_at(alloc: Global, log: &Log, index: usize, numbers: PushNumbers) -> Result<Push, Memory>
+    requires log { IsSettledLog log.now }
+    requires held { index < length log.now.pushes }
+    requires numbers { (d : PushContent) → numbers ≡ pushed_numbers (slice_index_or log.now.pushes index d) }
+    ensures { IfOk result (λ push. (d : PushContent) → push ≡ slice_index_or log.now.pushes index d) }
+{
+    // The first push is the mark, and no other is.
+    if index == 0 {
+        first_push(alloc, log, numbers)
+    } else {
+        later_push(alloc, log, index, numbers)
+    }
+}
+
+/// The mark of a log, of which the numbers are at hand.
+fn first_push(alloc: Global, log: &Log, numbers: PushNumbers) -> Result<Push, Memory>
+    requires log { IsSettledLog log.now }
+    requires held { 0 < length log.now.pushes }
+    requires numbers { (d : PushContent) → numbers ≡ pushed_numbers (slice_index_or log.now.pushes 0 d) }
+    ensures { IfOk result (λ push. (d : PushContent) → push ≡ slice_index_or log.now.pushes 0 d) }
+{
+    let epoch = log.id().epoch;
+    match log.mark() {
+        Some(state) => mark_of(alloc, epoch, numbers, state),
+        None => unreachable!(),
+    }
+}
+
+/// A push of a log behind its mark, of which the numbers are at hand.
+fn later_push(alloc: Global, log: &Log, index: usize, numbers: PushNumbers) -> Result<Push, Memory>
+    requires log { IsSettledLog log.now }
+    requires held { index < length log.now.pushes }
+    requires later { 0 < index }
+    requires numbers { (d : PushContent) → numbers ≡ pushed_numbers (slice_index_or log.now.pushes index d) }
+    ensures { IfOk result (λ push. (d : PushContent) → push ≡ slice_index_or log.now.pushes index d) }
+{
+    let epoch = log.id().epoch;
+    let version = version_of(numbers.version);
+    let bodies = bodies_at(alloc, log, version)?;
+    Ok(push_of(epoch, numbers, bodies))
+}
+
+/// The mark of these numbers and this state.
+fn mark_of(
+    alloc: Global,
+    epoch: Epoch,
+    numbers: PushNumbers,
+    state: &CoordState,
+) -> Result<Push, Memory>
+    requires known { numbers.known ≤ numbers.prev }
+    requires high { numbers.prev + 1 < 2 ^ 62 }
+    ensures { IfOk result (λ push. push
+        ≡ record {
+          epoch = epoch;
+          prev = numbers.prev;
+          version = numbers.prev + 1;
+          known = numbers.known;
+          bodies = [];
+          mark = Some state.now;
+        }) }
+{
+    let (prev, known) = (version_of(numbers.prev), version_of(numbers.known));
+    match Push::mark(alloc, epoch, prev, known, state.copy()?) {
+        Some(push) => Ok(push),
+        None => unreachable!(),
+    }
+}
+
+/// The push of these numbers and these bodies.
+fn push_of(epoch: Epoch, numbers: PushNumbers, bodies: Vec<Body>) -> Push
+    requires push { IsPush
+        (record {
+          epoch = epoch;
+          prev = numbers.prev;
+          version = numbers.version;
+          known = numbers.known;
+          bodies = bodies.items;
+          mark = None;
+        }) }
+    requires version { numbers.version < 2 ^ 62 }
+    ensures { result
+        ≡ record {
+          epoch = epoch;
+          prev = numbers.prev;
+          version = numbers.version;
+          known = numbers.known;
+          bodies = bodies.items;
+          mark = None;
+        } }
+{
+    let (prev, known) = (version_of(numbers.prev), version_of(numbers.known));
+    match Push::new(epoch, prev, version_of(numbers.version), known, bodies) {
+        Some(push) => push,
+        None => unreachable!(),
+    }
+}
+
+/// The bodies that a log has left at a version, by rising tags.
+fn bodies_at(alloc: Global, log: &Log, version: Version) -> Result<Vec<Body>, Memory>
+    ensures { IfOk result (λ bodies. bodies.items ≡ tagged 32 version log.now.pushes) }
+{
+    let mut bodies = Vec::new(alloc);
+    for number in 0..32u8 {
+        put_body_of(&mut bodies, log, number, version)?;
+    }
+    Ok(bodies)
+}
+
+/// Adds the body that a log has left of a tag at a version, if there is one.
+fn put_body_of(
+    bodies: &mut Vec<Body>,
+    log: &Log,
+    number: u8,
+    version: Version,
+) -> Result<(), Memory>
+    requires { number < 32 }
+    ensures { OnOk result (bodies.new.items
+        ≡ bodies.old.items ++ body_of number (batch_at version (pushed_batches number log.now.pushes))) }
+{
+    let tag = tag_of(number);
+    match log.batch_at(tag, version) {
+        Some(batch) => {
+            let batch = batch.copy()?;
+            bodies.push(Body { tag, batch })?;
+            Ok(())
+        }
+        None => Ok(()),
+    }
+}
+
+/// Adds the records of popped tags to a group.
+fn put_tags(group: &mut Vec<Vec<u8>>, alloc: Global, tags: &[PoppedTag]) -> Result<(), Memory>
+    requires { All (λ v. length v.items < 2 ^ 32) group.old.items }
+    ensures records { OnOk result (records_of group.new.items ≡ records_of group.old.items ++ map spelled_tag tags.now) }
+    ensures short { OnOk result (All (λ v. length v.items < 2 ^ 32) group.new.items) }
+{
+    for entry in tags {
+        group.push(popped(alloc, entry.tag, entry.version)?)?;
+    }
+    Ok(())
+}
+
+/// Adds the record of a lock to a group, if the log was locked.
+fn put_lock(group: &mut Vec<Vec<u8>>, alloc: Global, stopped: bool) -> Result<(), Memory>
+    requires { All (λ v. length v.items < 2 ^ 32) group.old.items }
+    ensures records { OnOk result (records_of group.new.items ≡ records_of group.old.items ++ spelled_stop stopped) }
+    ensures short { OnOk result (All (λ v. length v.items < 2 ^ 32) group.new.items) }
+{
+    match stopped {
+        true => {
+            group.push(lock(alloc)?)?;
+            Ok(())
+        }
+        false => Ok(()),
+    }
+}
