@@ -11,7 +11,7 @@ use fr_record::{Device, RecordFault, Records};
 use fr_record_log::LogNode;
 use fr_record_node::CellNode;
 use fr_register::Cell;
-use fr_segment::{OpenFault, Segments, identity};
+use fr_segment::{GroupFile, OpenFault, Segments, identity};
 use std::alloc::{AllocError, Global};
 use std::fs;
 

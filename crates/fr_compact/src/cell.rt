@@ -32,8 +32,6 @@ impl Compact for Cell {
 
     ghost spelled = { λ c. spelled_cell c ∷ [] };
 
-    ghost leads_back = { λ c sound. read_back fresh_cell c sound };
-
     fn spell(&self, alloc: Global) -> Result<Vec<Vec<u8>>, Memory> {
         let mut group = Vec::new(alloc);
         group.push(spelled(alloc, self)?)?;

@@ -20,6 +20,4 @@ pub trait Compact: Recorded {
         ensures records { IfOk result (λ group. records_of group.items ≡ spelled self.now) }
         ensures short { IfOk result (λ group. All (λ v. length v.items < 2 ^ 32) group.items) };
 
-    /// They lead the machine, as it was before it was asked anything, to this state.
-    ghost leads_back: { (s : Self) → Self.IsSound s → replayed Self.replay (Some (Self.fresh s)) (spelled s) ≡ Some s };
 }

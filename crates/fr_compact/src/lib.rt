@@ -22,6 +22,11 @@ mod cell;
 mod compact;
 mod compact_node;
 mod fault;
+mod log;
+mod log_node;
+#[cfg(test)]
+mod tests;
 
 pub use compact::Compact;
 pub use compact_node::CompactNode;
+pub use log_node::{CompactLog, RESERVE};

@@ -32,4 +32,6 @@ mod reading;
 mod spelled;
 mod spelling;
 
+pub use log_file::FileLog;
 pub use log_node::LogNode;
+pub use spelled::spelled;

@@ -19,7 +19,7 @@ use std::marker::Model;
 
 /// A log whose changes are records of a file. Contracts see the log.
 #[derive(Drop)]
-pub(crate) struct FileLog {
+pub struct FileLog {
     log: Log,
 }
 
@@ -32,13 +32,13 @@ impl Model for FileLog {
 }
 
 impl FileLog {
-    pub(crate) fn new(log: Log) -> Self
+    pub fn new(log: Log) -> Self
         ensures { result ≡ log }
     {
         FileLog { log }
     }
 
-    pub(crate) fn log(&self) -> &Log
+    pub fn log(&self) -> &Log
         ensures { result.now ≡ self.now }
     {
         &self.log

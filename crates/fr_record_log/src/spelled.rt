@@ -18,7 +18,7 @@ use std::alloc::Global;
 
 /// The records of a log's whole state: what is left of its seed and of its pushes, how far its tags are popped, and its
 /// lock. It costs what the records take, and puts one push at a time together.
-pub(crate) fn spelled(alloc: Global, log: &Log) -> Result<Vec<Vec<u8>>, Memory>
+pub fn spelled(alloc: Global, log: &Log) -> Result<Vec<Vec<u8>>, Memory>
     requires { IsSettledLog log.now }
     ensures records { IfOk result (λ group. records_of group.items ≡ spelled_log log.now) }
     ensures short { IfOk result (λ group. All (λ v. length v.items < 2 ^ 32) group.items) }

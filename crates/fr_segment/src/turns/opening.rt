@@ -17,7 +17,13 @@ use std::alloc::Global;
 impl<D: Device> Segments<D> {
     /// Two files with no records, on two devices that they are the only ones to use. The first is number 1, the second
     /// holds nothing.
-    pub fn make(alloc: Global, first: D, second: D, identity: Bytes) -> Result<Self, RecordFault>
+    pub fn make(
+        alloc: Global,
+        first: D,
+        second: D,
+        identity: Bytes,
+        records: &[Vec<u8>],
+    ) -> Result<Self, RecordFault>
         ensures records { IfOk result (λ pair. own_records pair.groups ≡ []) }
         ensures works { IfOk result (λ pair. pair.health ≡ Health.Works) }
         ensures identity { IfOk result (λ pair. pair.identity ≡ identity) }
@@ -32,11 +38,15 @@ impl<D: Device> Segments<D> {
         if limited(first.capacity()) < need || limited(second.capacity()) < need {
             return Err(RecordFault::Full);
         }
-        let group = [header(alloc, 1, identity.as_slice())?];
+        let mut group = Vec::new(alloc);
+        group.push(header(alloc, 1, identity.as_slice())?)?;
+        for record in records {
+            group.push(Vec::from_slice(alloc, record.as_slice())?)?;
+        }
         // The second one first: once the first has its header, a crash leaves a pair.
         let other = Segment::format(alloc, second)?.into_device();
         let mut current = Segment::format(alloc, first)?;
-        current.append_group(alloc, &group)?;
+        current.append_group(alloc, group.as_slice())?;
         Ok(Segments {
             current,
             other,
