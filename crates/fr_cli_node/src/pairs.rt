@@ -11,7 +11,7 @@ use fr_record::{Device, RecordFault, Records};
 use fr_record_log::LogNode;
 use fr_record_node::CellNode;
 use fr_register::Cell;
-use fr_segment::{GroupFile, OpenFault, Segments, identity};
+use fr_segment::{GroupFile, OpenFault, Segment, Segments, header, identity};
 use std::alloc::{AllocError, Global};
 use std::fs;
 
@@ -117,14 +117,14 @@ fn files_of(
     }
 }
 
-/// Makes the files, unless they hold something.
+/// Makes the files, with the records that an old one had, unless they hold something.
 fn made(
     host: &HostRuntime,
     alloc: Global,
     home: &Home,
     names: &Names,
     owner: Bytes,
-    records: Vec<Vec<u8>>,
+    old: Vec<Vec<u8>>,
 ) -> Result<Segments<HostDevice>, NodeEnd>
     ensures works { IfOk result (λ pair. ⟦<Segments<HostDevice> as GroupFile>⟧.is_failed pair ≡ false) }
 {
@@ -132,12 +132,55 @@ fn made(
     hold_nothing(alloc, first, second, owner.copy()?)?;
     // What was made before a crash holds nothing either, and is made anew.
     let (first, second) = devices(host, alloc, names, home.room)?;
-    match Segments::make(alloc, first, second, owner, records.as_slice()) {
-        Ok(pair) => Ok(pair),
-        Err(RecordFault::Full) => Err(NodeEnd::NoRoom),
-        Err(RecordFault::Memory) => Err(NodeEnd::Command(CliFault::Memory)),
-        Err(RecordFault::Device) => Err(NodeEnd::Crashed(Crash::Device)),
-        Err(RecordFault::Failed | RecordFault::Broken) => unreachable!(),
+    if old.is_empty() {
+        return match Segments::make(alloc, first, second, owner) {
+            Ok(pair) => Ok(pair),
+            Err(fault) => Err(unmade(fault)),
+        };
+    }
+    begin(alloc, first, second, owner.as_slice(), old)?;
+    let (first, second) = devices(host, alloc, names, home.room)?;
+    opened(alloc, first, second, owner)
+}
+
+/// Writes the first file of a pair: its header and these records, as one group. So a crash leaves no pair, or this one.
+fn begin<D: Device>(
+    alloc: Global,
+    first: D,
+    second: D,
+    owner: &[u8],
+    records: Vec<Vec<u8>>,
+) -> Result<(), NodeEnd> {
+    let mut records = records;
+    let mut group = Vec::new(alloc);
+    group.push(header(alloc, 1, owner)?)?;
+    group.append(&mut records)?;
+    match put_first(alloc, first, second, group.as_slice()) {
+        Ok(()) => Ok(()),
+        Err(fault) => Err(unmade(fault)),
+    }
+}
+
+/// Writes a group as the first one of a file on one device, and nothing on the other.
+fn put_first<D: Device>(
+    alloc: Global,
+    first: D,
+    second: D,
+    group: &[Vec<u8>],
+) -> Result<(), RecordFault> {
+    let _second = Segment::format(alloc, second)?;
+    let mut file = Segment::format(alloc, first)?;
+    file.append_group(alloc, group)
+}
+
+/// Why files were not made.
+fn unmade(fault: RecordFault) -> NodeEnd {
+    match fault {
+        RecordFault::Full => NodeEnd::NoRoom,
+        RecordFault::Memory => NodeEnd::Command(CliFault::Memory),
+        RecordFault::Device | RecordFault::Failed | RecordFault::Broken => {
+            NodeEnd::Crashed(Crash::Device)
+        }
     }
 }
 

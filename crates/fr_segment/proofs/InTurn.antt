@@ -114,6 +114,7 @@ pub record IsNewer (number : ℕ) (identity : List ℕ) (groups : List Group) (h
   pub flight : IsLeft [] g b
   pub owed : owed_by (own_records groups) health ≡ Some (drop 1 g)
   pub stands : StandsFor b (g ∷ [])
+  pub other : (left : List ℕ) → IsLeft [] g left → IsOtherLeft number identity health left
 
 never_older : (number n : ℕ) (identity b : List ℕ) → BeginsWith n identity b → number < n → IsOlder number identity b → ⊥
 never_older number n identity b begins greater (inl nothing) = never_both n identity b begins nothing
@@ -132,7 +133,7 @@ other_newer number n identity groups (Replacing put) fit b (inr flight) begins g
       | inr it ↦ it
     ] in
     let same = begins_once n (number + 1) identity identity b begins (headed_begins (number + 1) identity (g ∷ []) b fit.small fit.headed there) in
-    record { g = g; failed = refl; next = same.0; fits = fit; flight = flight; owed = refl; stands = there }
+    record { g = g; failed = refl; next = same.0; fits = fit; flight = flight; owed = refl; stands = there; other = λ left it. inr it }
 
 -- ---- ways
 module _ {D : Type 0} (Led : D → D → Type 0) (disk : D → Disk) (current : SegmentFile D) (other : D) (number : ℕ) (identity : List ℕ) (health : Health) where

@@ -27,3 +27,8 @@ mod Renewed
 mod FirstLemmas
 mod NextTurn
 mod Replacing
+mod Reopening
+mod OwnRecords
+mod ReopenFaults
+mod OpenRun
+mod Opened

@@ -15,3 +15,9 @@ IsBelow number (File lower) = lower < number
 abbrev pub IsTurn : First → First → Turn → Type 0
 IsTurn former latter (Former number) = (former ≡ File number) × IsBelow number latter
 IsTurn former latter (Latter number) = (latter ≡ File number) × IsBelow number former
+
+-- no file begins there
+abbrev pub IsVacant : First → Type 0
+IsVacant Missing = ⊤
+IsVacant Closed = ⊤
+IsVacant (File number) = ⊥

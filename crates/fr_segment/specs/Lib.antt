@@ -15,3 +15,4 @@ pub mod First
 pub mod Health
 pub mod Way
 pub mod PairLaws
+pub mod PairOpening

@@ -31,6 +31,10 @@ pub record BeginsWith (number : ℕ) (identity : List ℕ) (file : List ℕ) : T
 abbrev pub HoldsNothing : List ℕ → Type 0
 HoldsNothing file = (1 < length file) × IsClosedAt file 0
 
+-- a device on which no file is begun: it has no whole gate, or a closed one
+abbrev pub IsBlank : List ℕ → Type 0
+IsBlank file = (length file < 2) ⊎ HoldsNothing file
+
 -- the file that is not current: it holds nothing, or begins with the header of a lower number
 abbrev pub IsOlder : ℕ → List ℕ → List ℕ → Type 0
 IsOlder number identity file = HoldsNothing file ⊎ ((lower : ℕ) × (lower < number) × BeginsWith lower identity file)

@@ -3,7 +3,7 @@ ghost use Rattle.std.specs.Prelude.{◌≡◌, ◌≢◌, ◌↔◌, ◌⊎◌, 
 ghost use Rattle.fr_record.specs.Disk.{MayLeave, IsDurable, Stands};
 ghost use Rattle.fr_record.specs.Moments.{Throughout};
 ghost use Rattle.fr_segment.specs.Turns.{BeginsWith, HoldsNothing, IsForeign};
-ghost use Rattle.fr_segment.specs.First.{IsTurn};
+ghost use Rattle.fr_segment.specs.First.{IsTurn, IsVacant};
 
 use crate::open_fault::OpenFault;
 use crate::parse::{block_at, is_closed, read_u32};
@@ -111,6 +111,7 @@ pub(crate) fn turn_of(former: First, latter: First) -> Result<Turn, OpenFault>
     ensures turn { IfOk result (λ turn. IsTurn former latter turn) }
     ensures none { OnErr result ((turn : Turn) → IsTurn former latter turn → ⊥) }
     ensures only { IfErr result (λ fault. (fault ≡ OpenFault.Unmade) ⊎ (fault ≡ OpenFault.Broken)) }
+    ensures unmade { (result ≡ Err OpenFault.Unmade) ↔ (IsVacant former × IsVacant latter) }
 {
     match former {
         First::File(number) => match latter {

@@ -76,6 +76,7 @@ pub trait GroupFile: Drop {
         ensures same { records self.new ≡ records self.old }
         ensures fails { is_failed self.new ≡ (is_failed self.old || met_device result) }
         ensures device { (result ≡ Err RecordFault.Device) → failures self.new ≡ min (failures self.old + 1) (2 ^ 64 - 1) }
+        ensures no_failure { OnOk result (failures self.new ≡ failures self.old) }
         ensures owes { owed self.new ≡ owed self.old }
         ensures any_moment { is_failed self.old ≡ false → Throughout (λ rs. rs ≡ records self.old) self.old self.new }
         ensures sizes { (room self.new ≡ room self.old) × (used self.new ≡ used self.old) × (next_room self.new ≡ next_room self.old) × (front self.new ≡ front self.old) };
@@ -116,6 +117,7 @@ pub trait GroupFile: Drop {
         ensures err { OnErr result (records self.new ≡ records self.old) }
         ensures fails { is_failed self.new ≡ (is_failed self.old || met_device result) }
         ensures device { (result ≡ Err RecordFault.Device) → failures self.new ≡ min (failures self.old + 1) (2 ^ 64 - 1) }
+        ensures no_failure { OnOk result (failures self.new ≡ failures self.old) }
         ensures full { (result ≡ Err RecordFault.Full)
             → (is_failed self.old ≡ false) × (next_room self.old < begun_size (front self.old) (records_of group.now) + 10) }
         ensures untouched { (result ≡ Err RecordFault.Full) ⊎ (result ≡ Err RecordFault.Memory) → self.new ≡ self.old }

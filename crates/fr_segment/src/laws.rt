@@ -1,6 +1,7 @@
 //! Laws over files of groups.
 ghost use Rattle.fr_segment.specs.Header.{OneFile, OneOwner};
 ghost use Rattle.fr_segment.specs.Turns.{OnePair};
+ghost use Rattle.fr_segment.specs.PairOpening.{PairWholeOrNot};
 ghost use Rattle.fr_segment.specs.Laws.{TellsOneByte, OneList, WholeOrNot, RestStands, OneByteIsTold, ClosedGateIsTold, RestIsFree};
 
 /// A checksum tells one changed byte.
@@ -30,7 +31,9 @@ pub fn header_law()
     ensures one_owner { OneOwner }
 {}
 
-/// Two files in turn stand for one list of records at most.
+/// Two files in turn stand for one list of records at most. What a crash leaves of them stands for the records before the
+/// call in flight, or for those to which it was to lead.
 pub fn pair_law()
     ensures one_pair { OnePair }
+    ensures whole_or_not { PairWholeOrNot }
 {}

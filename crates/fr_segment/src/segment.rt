@@ -118,6 +118,7 @@ impl<D: Device> Segment<D> {
         ensures full { (result ≡ Err RecordFault.Full)
             ↔ ((self.old.is_failed ≡ false) × (group.now ≢ [])
             × (D.capacity_of self.old.device < length (groups_from 0 self.old.groups) + length (body (records_of group.now)) + 24)) }
+        ensures no_failure { OnOk result (D.failures_of self.new.device ≡ D.failures_of self.old.device) }
         ensures none { group.now ≡ [] → self.old.is_failed ≡ false → IsOk result × (self.new ≡ self.old) }
         ensures capacity { D.capacity_of self.new.device ≡ D.capacity_of self.old.device }
         ensures any_moment { self.old.is_failed ≡ false
@@ -192,6 +193,7 @@ impl<D: Device> Segment<D> {
     pub fn format(alloc: Global, device: D) -> Result<Self, RecordFault>
         ensures groups { IfOk result (λ file. file.groups ≡ []) }
         ensures works { IfOk result (λ file. file.is_failed ≡ false) }
+        ensures durable { IfOk result (λ file. IsDurable (D.disk file.device)) }
         ensures content { IfOk result (λ file. (D.disk file.device).content ≡ written (D.disk device).content 0 (0 ∷ 0 ∷ guard 0)) }
         ensures kept { IfOk result (λ file. LeavesOnly D.Led D.disk (IsAtRest file.groups) file.device) }
         ensures capacity { IfOk result (λ file. D.capacity_of file.device ≡ D.capacity_of device) }

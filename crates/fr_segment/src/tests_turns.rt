@@ -76,7 +76,6 @@ fn crashed(
         device(alloc, first)?,
         device(alloc, second)?,
         owner(alloc)?,
-        &[],
     )
     .ok()?;
     let mut done = 0;
@@ -119,7 +118,7 @@ fn crash_at_each_call(rt: HostRuntime) {
 /// Once its calls work again, a pair that met a fault goes on.
 fn goes_on(alloc: Global, n: u64) -> Option<bool> {
     let first = FaultyDevice::once(MemoryDevice::new(alloc, ROOM).ok()?, n);
-    let mut pair = Segments::make(alloc, first, device(alloc, 0)?, owner(alloc)?, &[]).ok()?;
+    let mut pair = Segments::make(alloc, first, device(alloc, 0)?, owner(alloc)?).ok()?;
     for step in 0..4 {
         if call(alloc, &mut pair, step)?.is_err() {
             pair.reopen(alloc).ok()?;

@@ -141,7 +141,11 @@ impl<D: Device> GroupFile for Segments<D> {
     }
 
     fn reopen(&mut self, alloc: Global) -> Result<(), RecordFault> {
-        match self.turn(alloc)? {
+        let turn = match self.turn(alloc) {
+            Ok(turn) => turn,
+            Err(fault) => return Err(fault),
+        };
+        match turn {
             Turn::Former(_) => self.reopen_current(alloc),
             Turn::Latter(number) => self.reopen_other(alloc, number),
         }

@@ -1,7 +1,10 @@
 //! Two files in turn, made and opened.
-ghost use Rattle.std.specs.Prelude.{◌≡◌, ◌≢◌, ◌↔◌, ◌⊎◌, ◌+◌, ◌-◌, ◌^◌, ◌<◌, min, [], List, ℕ, length, Err, IfOk, IfErr};
+ghost use Rattle.std.specs.Prelude.{◌≡◌, ◌≢◌, ◌⊎◌, ◌+◌, ◌-◌, ◌^◌, ◌<◌, min, [], List, ℕ, length, Err, IfOk, OnErr};
 ghost use Rattle.fr_record.specs.Disk.{IsDurable};
-ghost use Rattle.fr_segment.specs.Turns.{BeginsWith, IsOlder, PairStandsFor, own_records};
+ghost use Rattle.fr_record.specs.Failing.{FailsOnceMore};
+ghost use Rattle.fr_segment.specs.Opening.{IsOpening};
+ghost use Rattle.fr_segment.specs.PairOpening.{IsPairOpening, HavePairGone};
+ghost use Rattle.fr_segment.specs.Turns.{BeginsWith, IsBlank, IsOlder, PairStandsFor, own_records};
 ghost use Rattle.fr_segment.specs.Way.{IsWay};
 
 use super::{Segments, limited};
@@ -17,17 +20,14 @@ use std::alloc::Global;
 impl<D: Device> Segments<D> {
     /// Two files with no records, on two devices that they are the only ones to use. The first is number 1, the second
     /// holds nothing.
-    pub fn make(
-        alloc: Global,
-        first: D,
-        second: D,
-        identity: Bytes,
-        records: &[Vec<u8>],
-    ) -> Result<Self, RecordFault>
+    pub fn make(alloc: Global, first: D, second: D, identity: Bytes) -> Result<Self, RecordFault>
         ensures records { IfOk result (λ pair. own_records pair.groups ≡ []) }
         ensures works { IfOk result (λ pair. pair.health ≡ Health.Works) }
         ensures identity { IfOk result (λ pair. pair.identity ≡ identity) }
         ensures kept { IfOk result (λ pair. IsWay D.Led D.disk (λ rs. rs ≡ []) pair pair) }
+        ensures capacity { IfOk result (λ pair. (D.capacity_of pair.current ≡ D.capacity_of first) × (D.capacity_of pair.other ≡ D.capacity_of second)) }
+        ensures failures { IfOk result (λ pair. (D.failures_of pair.current ≡ D.failures_of first) × (D.failures_of pair.other ≡ D.failures_of second)) }
+        ensures device { (result ≡ Err RecordFault.Device) → FailsOnceMore D.failures_of first ⊎ FailsOnceMore D.failures_of second }
         ensures full { (result ≡ Err RecordFault.Full)
             → min (min (D.capacity_of first) (D.capacity_of second)) (2 ^ 32 - 1) < length identity + 43 }
         ensures never_failed { result ≢ Err RecordFault.Failed }
@@ -38,15 +38,11 @@ impl<D: Device> Segments<D> {
         if limited(first.capacity()) < need || limited(second.capacity()) < need {
             return Err(RecordFault::Full);
         }
-        let mut group = Vec::new(alloc);
-        group.push(header(alloc, 1, identity.as_slice())?)?;
-        for record in records {
-            group.push(Vec::from_slice(alloc, record.as_slice())?)?;
-        }
+        let group = [header(alloc, 1, identity.as_slice())?];
         // The second one first: once the first has its header, a crash leaves a pair.
         let other = Segment::format(alloc, second)?.into_device();
         let mut current = Segment::format(alloc, first)?;
-        current.append_group(alloc, group.as_slice())?;
+        current.append_group(alloc, &group)?;
         Ok(Segments {
             current,
             other,
@@ -56,7 +52,8 @@ impl<D: Device> Segments<D> {
         })
     }
 
-    /// The pair that two devices hold, in either order, whatever a crash made of it. A refusal drops the devices.
+    /// The pair that two devices hold, in either order, whatever a crash made of it. A refusal drops the devices. The clause
+    /// `gone` says what a crash may then have left, of devices to which the calls led.
     pub fn open(alloc: Global, first: D, second: D, identity: Bytes) -> Result<Self, OpenFault>
         ensures records { IfOk result (λ pair. PairStandsFor identity (own_records pair.groups) (D.disk first).content (D.disk second).content) }
         ensures works { IfOk result (λ pair. pair.health ≡ Health.Works) }
@@ -64,6 +61,13 @@ impl<D: Device> Segments<D> {
         ensures kept { IfOk result (λ pair. IsWay D.Led D.disk (λ rs. rs ≡ own_records pair.groups) pair pair) }
         ensures none { (result ≡ Err OpenFault.Unmade) ⊎ (result ≡ Err OpenFault.Stranger) ⊎ (result ≡ Err OpenFault.Broken)
             → (records : List (List ℕ)) → PairStandsFor identity records (D.disk first).content (D.disk second).content → ⊥ }
+        ensures unmade { (result ≡ Err OpenFault.Unmade) → IsBlank (D.disk first).content × IsBlank (D.disk second).content }
+        ensures any_moment { IfOk result (λ pair. IsPairOpening D.Led D.disk identity (first, second) (pair.current, pair.other)) }
+        ensures gone { OnErr result (HavePairGone D.Led D.disk identity (first, second)) }
+        ensures capacity { IfOk result (λ pair. ((D.capacity_of pair.current ≡ D.capacity_of first) × (D.capacity_of pair.other ≡ D.capacity_of second))
+            ⊎ ((D.capacity_of pair.current ≡ D.capacity_of second) × (D.capacity_of pair.other ≡ D.capacity_of first))) }
+        ensures failures { IfOk result (λ pair. D.failures_of pair.current + D.failures_of pair.other ≡ D.failures_of first + D.failures_of second) }
+        ensures device { (result ≡ Err OpenFault.Device) → FailsOnceMore D.failures_of first ⊎ FailsOnceMore D.failures_of second }
     {
         let mut first = first;
         let mut second = second;
@@ -99,7 +103,14 @@ impl<D: Device> Segments<D> {
         ensures kept { IfOk result (λ pair. IsWay D.Led D.disk (λ rs. rs ≡ own_records pair.groups) pair pair) }
         ensures none { (result ≡ Err OpenFault.Broken) → (records : List (List ℕ))
             → PairStandsFor identity records (D.disk current).content (D.disk other).content → ⊥ }
-        ensures only { IfErr result (λ fault. (fault ≡ OpenFault.Device) ⊎ (fault ≡ OpenFault.Memory) ⊎ (fault ≡ OpenFault.Broken)) }
+        ensures never_unmade { result ≢ Err OpenFault.Unmade }
+        ensures never_stranger { result ≢ Err OpenFault.Stranger }
+        ensures opening { IfOk result (λ pair. IsOpening D.Led D.disk current pair.current) }
+        ensures beside { IfOk result (λ pair. pair.other ≡ other) }
+        ensures gone { OnErr result ((last : D) × IsOpening D.Led D.disk current last) }
+        ensures capacity { IfOk result (λ pair. D.capacity_of pair.current ≡ D.capacity_of current) }
+        ensures failures { IfOk result (λ pair. D.failures_of pair.current ≡ D.failures_of current) }
+        ensures device { (result ≡ Err OpenFault.Device) → FailsOnceMore D.failures_of current }
     {
         // The other device is not opened as a file: its gate may be torn with several groups behind it (invariant 11).
         match Segment::open(alloc, current) {

@@ -1,8 +1,7 @@
 //! Two files in turn, opened again.
-ghost use Rattle.std.specs.Prelude.{◌≡◌, ◌≢◌, ◌⊎◌, ◌+◌, ◌-◌, ◌^◌, ◌<◌, min, ℕ, true, Ok, Err, Some, IfErr, OnOk, OnErr};
-ghost use Rattle.fr_record.specs.Disk.{MayLeave, IsDurable, Stands};
+ghost use Rattle.std.specs.Prelude.{◌≡◌, ◌≢◌, ◌↔◌, ◌⊎◌, ◌+◌, ◌-◌, ◌^◌, ◌<◌, min, ℕ, true, Ok, Err, Some, IfErr, OnOk, OnErr};
+ghost use Rattle.fr_record.specs.Disk.{IsDurable, Stands};
 ghost use Rattle.fr_segment.specs.Health.{failed_now, has_failed, owed_by};
-ghost use Rattle.fr_segment.specs.Pair.{PairThroughout};
 ghost use Rattle.fr_segment.specs.Turns.{BeginsWith, IsOlder, own_records};
 ghost use Rattle.fr_segment.specs.Way.{IsWay};
 
@@ -23,8 +22,8 @@ impl<D: Device> Segments<D> {
         ensures current { Stands (D.disk self.old.current) (D.disk self.new.current) }
         ensures other { Stands (D.disk self.old.other) (D.disk self.new.other) }
         ensures durable { OnOk result (IsDurable (D.disk self.new.current) × IsDurable (D.disk self.new.other)) }
-        ensures any_moment { PairThroughout D.Led D.disk (λ a b. MayLeave (D.disk self.old.current) a × MayLeave (D.disk self.old.other) b)
-            (self.old.current, self.old.other) (self.new.current, self.new.other) }
+        ensures any_moment { IsWay D.Led D.disk (λ rs. (rs ≡ own_records self.old.groups) ⊎ (owed_by (own_records self.old.groups) self.old.health ≡ Some rs))
+            self.old self.new }
         ensures groups { self.new.groups ≡ self.old.groups }
         ensures number { self.new.number ≡ self.old.number }
         ensures identity { self.new.identity ≡ self.old.identity }
@@ -55,8 +54,11 @@ impl<D: Device> Segments<D> {
     /// What an opening answers to a fault of a device that holds a file of this pair, or nothing.
     fn refused(&mut self, fault: OpenFault) -> RecordFault
         requires only { (fault ≡ OpenFault.Device) ⊎ (fault ≡ OpenFault.Memory) }
-        ensures device { (fault ≡ OpenFault.Device) → (result ≡ RecordFault.Device) × (self.new ≡ record self.old { health = failed_now self.old.health }) }
-        ensures memory { (fault ≡ OpenFault.Memory) → (result ≡ RecordFault.Memory) × (self.new ≡ self.old) }
+        ensures only { (result ≡ RecordFault.Device) ⊎ (result ≡ RecordFault.Memory) }
+        ensures device { (result ≡ RecordFault.Device) ↔ (fault ≡ OpenFault.Device) }
+        ensures fails { (result ≡ RecordFault.Device) → self.new.health ≡ failed_now self.old.health }
+        ensures health { result ≢ RecordFault.Device → self.new.health ≡ self.old.health }
+        ensures same { self.new ≡ record self.old { health = self.new.health } }
     {
         match fault {
             OpenFault::Device => {

@@ -1,6 +1,6 @@
-use Rattle.std.proofs.Common.{rules, ◌≡◌, ◌⊎◌, ◌+◌, ◌-◌, min, ◌<◌, ◌≤◌, ◌^◌, ◌++◌, ◌∷◌, [], List, ℕ, false, length, drop, Some, refl, sym, ap, subst, ◌∙◌, arith}
+use Rattle.std.proofs.Common.{rules, ◌≡◌, ◌⊎◌, ◌+◌, ◌-◌, min, ◌<◌, ◌≤◌, ◌^◌, ◌++◌, ◌∷◌, [], false, length, drop, Some, refl, sym, ap, subst, ◌∙◌, arith}
 use Rattle.fr_segment.specs.declared.health.Health.TheVariants.{Replacing}
-use Rattle.fr_segment.specs.File.{body, behind, guard, groups_from}
+use Rattle.fr_segment.specs.File.{body, behind, guard}
 use Rattle.fr_segment.specs.Group.{records_of}
 use Rattle.fr_segment.specs.Header.{header}
 use Rattle.fr_segment.specs.Health.{has_failed, group_of, AreInTurn}
@@ -115,3 +115,11 @@ returns-in-Err-Memory-clause-any_moment g c never =
     let bytes : c.deref-2.result.now ≡ behind 0 (header (c.self.inside.number + 1) c.self.inside.identity ∷ records_of c.args.group.now) ++ guard 1 = c.deref-2.ensures.value ∙ (c.in-Ok.ensures.new ∙ ap (λ s. behind 0 (header (s.number + 1) s.identity ∷ records_of c.args.group.now) ++ guard 1) (sym c.self.view_is)) in
     subst (λ s. IsWay g.D.Device.Led g.D.Device.disk (λ rs. (rs ≡ own_records s.groups) ⊎ (rs ≡ records_of c.args.group.now)) s (record { current = c.turn.new.self.device; other = c.turn.new.other; groups = c.turn.new.self.groups; number = c.self.inside.number; identity = c.self.inside.identity; health = c.self.inside.health })) c.self.view_is
     (renew_way g.D.Device.Led g.D.Device.disk c.self.inside.current c.self.inside.other c.self.inside.number c.self.inside.identity c.self.inside.health c.self.invariant works (header (c.self.inside.number + 1) c.self.inside.identity ∷ records_of c.args.group.now) next c.deref-2.result.now bytes (record { current = c.turn.new.self.device; other = c.turn.new.other; groups = c.turn.new.self.groups; number = c.self.inside.number; identity = c.self.inside.identity; health = c.self.inside.health }) refl (ap (λ s. s.device) c.in-Err-Memory.ensures.same) c.in-Err-Memory.ensures.broken_off)
+
+pub returns-in-Ok-turn-clause-no_failure : goal.returns-in-Ok-turn-clause-no_failure
+returns-in-Ok-turn-clause-no_failure g c =
+    let new = c.in-Ok-turn.ensures.no_failure in
+    let turned = ap (λ x. g.D.Device.failures_of x) c.in-Ok-turn.ensures.turned in
+    let one = ap (λ s. g.D.Device.failures_of s.current) c.self.view_is in
+    let two = ap (λ s. g.D.Device.failures_of s.other) c.self.view_is in
+    omega (arith, new, turned, one, two)
