@@ -1,6 +1,6 @@
 -- The records of a log's whole state lead a log that was never asked to it.
-use Rattle.std.proofs.Common.{◌≡◌, ℕ, ◌+◌, ◌<◌, ◌≤◌, Bool, true, false, List, [], ◌∷◌, ◌++◌, map, All, Option, Some, None, cond, refl, sym, ap, subst, ◌∙◌, append_assoc, arith}
-use Rattle.std.specs.Prelude.{◌^◌, ◌==◌, ◌&&◌, nat_le, is_some, is_none, IfSome}
+use Rattle.std.proofs.Common.{◌≡◌, ℕ, ◌<◌, Bool, true, false, List, [], ◌∷◌, ◌++◌, map, All, Option, Some, None, cond, refl, sym, ap, subst, ◌∙◌, append_assoc, arith}
+use Rattle.std.specs.Prelude.{◌^◌, nat_le, is_some, is_none, IfSome}
 use Rattle.std.specs.List.{list_all}
 use Rattle.std.proofs.lemmas.Bool.{and_parts, eq-eqb, leb-true}
 use Rattle.std.proofs.lemmas.List.{append-nil}
@@ -18,15 +18,15 @@ use Rattle.fr_log.specs.Step.{after_ask, with_popped}
 use Rattle.fr_log.specs.Seeding.{changes}
 use Rattle.fr_record_node.specs.Replay.{replayed, next_replayed}
 use Rattle.fr_record_log.specs.Limits.{IsSoundSeed, IsSoundPush, IsSoundAsk, IsWithinSeed, IsWithinPush}
-use Rattle.fr_record_log.specs.Spelling.{spelled_head, spelled_seeded, spelled_popped, spelled_push, spelled_ask}
+use Rattle.fr_record_log.specs.Spelling.{spelled_head, spelled_seeded, spelled_push, spelled_ask}
 use Rattle.fr_record_log.specs.Reading.{◌>>=◌}
 use Rattle.fr_record_log.specs.LogFile.{fresh_of, taken, replay_log, IsSoundLog, IsSettledLog}
 use Rattle.fr_record_log.specs.Law.{AskIsFileAsk}
-use Rattle.fr_record_log.specs.Spelled.{spelled_tag, spelled_stop, spelled_behind, spelled_from, spelled_log, SpelledLogIsRead}
+use Rattle.fr_record_log.specs.Spelled.{spelled_tag, spelled_stop, spelled_behind, spelled_from, SpelledLogIsRead}
 use Rattle.fr_record_log.proofs.Lengths.{bodies_few}
 use Rattle.fr_record_log.proofs.Records.{popped_is_read}
-use Rattle.fr_record_log.proofs.Pushing.{holding, reach, IsNextHeld, AreNextHeld, first_held, one_held, others_held, behind_first}
-use Rattle.fr_record_log.proofs.Popping.{popping, IsLastRaised, last_raised, IsNextPopped, next_popped}
+use Rattle.fr_record_log.proofs.Pushing.{holding, IsNextHeld, AreNextHeld, first_held, one_held, others_held, behind_first}
+use Rattle.fr_record_log.proofs.Popping.{popping, last_raised, IsNextPopped, next_popped}
 
 -- records that lead from one log to another, and those behind them
 behind : (a b : LogState) (front more : List (List ℕ)) → replayed replay_log (Some a) front ≡ Some b → replayed replay_log (Some a) (front ++ more) ≡ replayed replay_log (Some b) more

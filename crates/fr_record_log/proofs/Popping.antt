@@ -1,6 +1,6 @@
 -- A log with the first of its popped tags takes the next one, and lets nothing more go.
-use Rattle.std.proofs.Common.{◌≡◌, ℕ, ◌+◌, ◌<◌, ◌≤◌, Bool, true, false, List, [], ◌∷◌, ◌++◌, map, All, Option, Some, None, cond, refl, sym, ap, ◌∙◌, arith}
-use Rattle.std.specs.Prelude.{◌==◌, ◌&&◌, nat_lt, nat_le, filter, is_some, unwrap_or}
+use Rattle.std.proofs.Common.{◌≡◌, ℕ, ◌+◌, ◌≤◌, Bool, true, false, List, [], ◌∷◌, ◌++◌, map, Option, Some, None, cond, refl, sym, ap, ◌∙◌, arith}
+use Rattle.std.specs.Prelude.{◌==◌, nat_lt, nat_le, filter, is_some, unwrap_or}
 use Rattle.std.specs.Option.{option_map}
 use Rattle.std.proofs.lemmas.Bool.{and_parts, leb-true, le-ltb, ltb-true, lt-ltb, ne_eqb}
 use Rattle.fr_tags.specs.declared.body.Body.{Body}
@@ -9,7 +9,7 @@ use Rattle.fr_log.specs.Seed.{SeedContent}
 use Rattle.fr_log.specs.Push.{PushContent}
 use Rattle.fr_log.specs.declared.records.SeedRecord.{SeedRecord}
 use Rattle.fr_log.specs.declared.popped.PoppedTag.{PoppedTag}
-use Rattle.fr_log.specs.Left.{popped_of, popped_at, raised, is_rising_popped, left_bodies, left_push, is_left, left_seed}
+use Rattle.fr_log.specs.Left.{popped_of, popped_at, raised, is_rising_popped, left_push, is_left, left_seed}
 use Rattle.fr_log.specs.LogState.{LogState, swept, holds, known_of}
 use Rattle.fr_log.specs.Step.{with_popped}
 use Rattle.fr_log.specs.Seeding.{may_pop}

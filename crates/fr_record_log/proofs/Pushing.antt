@@ -1,12 +1,10 @@
 -- A log with its seed and the first of its pushes takes the next one.
-use Rattle.std.proofs.Common.{◌≡◌, ℕ, ◌+◌, ◌<◌, ◌≤◌, Bool, true, false, List, [], ◌∷◌, ◌++◌, map, max, All, Option, Some, None, refl, sym, ap, subst, ◌∙◌, append_assoc, arith, inl, inr}
-use Rattle.std.specs.Prelude.{◌==◌, ◌&&◌, ◌||◌, not, nat_lt, is_none, is_some, fold, IsSome, IsNone}
+use Rattle.std.proofs.Common.{◌≡◌, ℕ, ◌<◌, ◌≤◌, true, false, List, [], ◌∷◌, ◌++◌, max, All, Option, Some, None, refl, sym, subst, arith, inl, inr}
+use Rattle.std.specs.Prelude.{◌==◌, ◌&&◌, not, is_none, is_some, fold, IsSome, IsNone}
 use Rattle.std.specs.List.{list_any}
 use Rattle.std.proofs.lemmas.Bool.{or_cases, and_left, and_right, eq-eqb, ne_eqb, le-ltb, false_from_ne_true}
-use Rattle.std.proofs.lemmas.List.{append-nil}
 use Rattle.std.proofs.lemmas.List.Sums.{fold-append}
 use Rattle.std.proofs.lemmas.List.Elements.{All-head, All-tail}
-use Rattle.fr_log.specs.declared.ask.LogAsk.{LogAsk}
 use Rattle.fr_log.specs.declared.ask.LogAsk.TheVariants.{Push}
 use Rattle.fr_log.specs.Seed.{SeedContent}
 use Rattle.fr_log.specs.Push.{PushContent, is_one_push, is_one_push-parts}
@@ -65,9 +63,6 @@ next_held l s front p own follows early unmarked =
       changes = rw (granted, other) refl;
       after = rw (granted, other) refl;
     }
-
-none_is_none : {A : Type 0} (o : Option A) → IsNone o → is_some o ≡ false
-none_is_none o none = none
 
 some_is_some : {A : Type 0} (o : Option A) → IsSome o → is_none o ≡ false
 some_is_some None some = absurd (cc)

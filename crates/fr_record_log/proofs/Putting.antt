@@ -1,5 +1,5 @@
 -- The records of a log's whole state, put into a group one after the other.
-use Rattle.std.proofs.Common.{◌≡◌, ℕ, ◌+◌, ◌<◌, Bool, true, false, List, [], ◌∷◌, ◌++◌, length, get_or, map, take, Option, Some, None, Ok, Err, Result, Vec, Global, refl, sym, ap, subst, ◌∙◌, append_assoc, arith}
+use Rattle.std.proofs.Common.{◌≡◌, ℕ, ◌+◌, ◌<◌, Bool, true, false, List, [], ◌∷◌, ◌++◌, length, get_or, map, take, Some, None, Ok, Err, Result, Vec, Global, sym, ap, ◌∙◌, append_assoc, arith}
 use Rattle.std.specs.Prelude.{IfOk}
 use Rattle.std.proofs.lemmas.List.{append-nil, map-append, take_more, get_or-map, length-map}
 use Rattle.fr_base.specs.declared.memory.Memory.{Memory}
@@ -30,8 +30,8 @@ no_body old tag n version ps same there =
 -- ---- the pushes
 
 -- the numbers at an index are those of the push there
-pub numbers_at : (list : List PushNumbers) (ps : List PushContent) (i : ℕ) (n e : PushNumbers) → list ≡ map pushed_numbers ps → i < length ps → n ≡ get_or list i e → (d : PushContent) → n ≡ pushed_numbers (get_or ps i d)
-numbers_at list ps i n e all within is d = is ∙ ap (λ xs. get_or xs i e) all ∙ get_or-map pushed_numbers ps i d e within
+pub numbers_at : (list : List PushNumbers) (ps : List PushContent) (i : ℕ) (e : PushNumbers) → list ≡ map pushed_numbers ps → i < length ps → (d : PushContent) → get_or list i e ≡ pushed_numbers (get_or ps i d)
+numbers_at list ps i e all within d = ap (λ xs. get_or xs i e) all ∙ get_or-map pushed_numbers ps i d e within
 
 -- with an index that is 0
 pub at_first : (ps : List PushContent) (i : ℕ) (n : PushNumbers) → i ≡ 0 → ((d : PushContent) → n ≡ pushed_numbers (get_or ps i d)) → (d : PushContent) → n ≡ pushed_numbers (get_or ps 0 d)

@@ -29,9 +29,9 @@ mod limits;
 mod log_file;
 mod log_node;
 mod reading;
-mod spelled;
 mod spelling;
+mod whole;
 
 pub use log_file::FileLog;
 pub use log_node::LogNode;
-pub use spelled::spelled;
+pub use whole::spelled;

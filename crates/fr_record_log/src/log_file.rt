@@ -1,8 +1,8 @@
 //! The changes of a log as records of its file.
-ghost use Rattle.std.specs.Prelude.{◌≡◌, Err, None, Some, OnOk, OnErr};
+ghost use Rattle.std.specs.Prelude.{◌≡◌, ◌<◌, ◌≤◌, Err, None, Some, OnOk, OnErr};
 ghost use Rattle.fr_record_node.specs.declared.fault.RecordReadFault.{RecordReadFault};
 ghost use Rattle.fr_record_log.specs.declared.change.Change.{Change};
-ghost use Rattle.fr_log.specs.LogState.{swept};
+ghost use Rattle.fr_log.specs.LogState.{fresh_log, swept};
 ghost use Rattle.fr_record_log.specs.LogFile.{taken, IsSettledLog};
 
 use crate::change::Change;
@@ -10,14 +10,16 @@ use crate::laws::file_ask_law;
 use crate::limits::{ask_within_limits, log_within_limits, record_within_limits};
 use crate::reading::change_at;
 use crate::spelling::spelled_ask;
-use fr_base::{Machine, Memory};
+use fr_base::{LogId, Machine, Memory};
 use fr_log::laws::{chain_law, change_law, letting_law, place_law};
 use fr_log::{Checkpoint, Log, LogAsk, LogTell, PoppedTag, SeedRecord};
 use fr_record_node::{RecordReadFault, Recorded};
+use fr_tags::MAX_LOGS;
 use std::alloc::Global;
 use std::marker::Model;
 
-/// A log whose changes are records of a file. Contracts see the log.
+/// A log whose changes are records of a file: what a node over records (`Recorded`) is made of. `LogNode` is such a
+/// node; a node that keeps its files otherwise begins with `FileLog::fresh`. Contracts see the log.
 #[derive(Drop)]
 pub struct FileLog {
     log: Log,
@@ -32,12 +34,31 @@ impl Model for FileLog {
 }
 
 impl FileLog {
+    /// This log, in the state in which it is. A new file begins with `fresh` instead: its records are read from there.
     pub fn new(log: Log) -> Self
         ensures { result ≡ log }
     {
         FileLog { log }
     }
 
+    /// A log that was never asked, of a generation of `m` logs on `k` of which each tag is: the state before the first
+    /// record of a file.
+    pub fn fresh(alloc: Global, id: LogId, m: u8, k: u8) -> Self
+        requires some { 1 ≤ k }
+        requires fits { k ≤ m }
+        requires limit { m ≤ MAX_LOGS }
+        requires place { id.index < m }
+        ensures log { result ≡ fresh_log id.epoch id.index m k }
+        ensures settled { IsSettledLog result }
+    {
+        letting_law();
+        // No record stands for this log (invariant 1): a file without records is a log that was never asked.
+        let log = Log::new(alloc, id, m, k);
+        log_within_limits(&log);
+        FileLog::new(log)
+    }
+
+    /// The log, to be read.
     pub fn log(&self) -> &Log
         ensures { result.now ≡ self.now }
     {

@@ -11,14 +11,12 @@ ghost use Rattle.fr_record.specs.Opening.{IsOpening, HasGone};
 ghost use Rattle.fr_record_node.specs.Several.{told_all};
 ghost use Rattle.fr_record_node.specs.Node.{HasNoRoom, is_trouble};
 ghost use Rattle.fr_record_node.specs.Replay.{replayed, Opens};
-ghost use Rattle.fr_record_log.specs.LogFile.{fresh_of, replay_log, IsSettledLog};
+ghost use Rattle.fr_record_log.specs.LogFile.{fresh_of, replay_log};
 ghost use Rattle.fr_record_log.specs.Law.{after_all, written_all};
 ghost use Rattle.fr_record_log.specs.Spelling.{written_log};
 
-use crate::limits::log_within_limits;
 use crate::log_file::FileLog;
 use fr_base::{LogId, Machine, Node, NodeFault, Reopened};
-use fr_log::laws::letting_law;
 use fr_log::{Log, LogAsk, LogTell};
 use fr_record::Device;
 use fr_record_node::FileNode;
@@ -43,22 +41,6 @@ impl<D: Device> Model for LogNode<D> {
     ghost view = { λ n. n.node };
 }
 
-/// A log that was never asked.
-fn fresh(alloc: Global, id: LogId, m: u8, k: u8) -> FileLog
-    requires some { 1 ≤ k }
-    requires fits { k ≤ m }
-    requires limit { m ≤ MAX_LOGS }
-    requires place { id.index < m }
-    ensures log { result ≡ fresh_log id.epoch id.index m k }
-    ensures settled { IsSettledLog result }
-{
-    letting_law();
-    // No record stands for this log (invariant 1): a file without records is a log that was never asked.
-    let log = Log::new(alloc, id, m, k);
-    log_within_limits(&log);
-    FileLog::new(log)
-}
-
 impl<D: Device> LogNode<D> {
     /// A log that was never asked, of a generation of `m` logs on `k` of which each tag is, over a
     /// device that it is the only one to use.
@@ -78,7 +60,7 @@ impl<D: Device> LogNode<D> {
         ensures only_device { IfErr result (λ fault. (fault ≡ NodeFault.Device) ⊎ (fault ≡ NodeFault.Full)) }
         ensures device { (result ≡ Err NodeFault.Device) → FailsOnceMore D.failures_of device }
     {
-        let log = fresh(alloc, id, m, k);
+        let log = FileLog::fresh(alloc, id, m, k);
         match FileNode::format(alloc, device, log) {
             Ok(node) => Ok(LogNode { node }),
             Err(fault) => Err(fault),
@@ -111,7 +93,7 @@ impl<D: Device> LogNode<D> {
     {
         // The caller says which log it wants: a file that names another one is `Broken`, and not opened as what it is
         // (invariant 7).
-        let log = fresh(alloc, id, m, k);
+        let log = FileLog::fresh(alloc, id, m, k);
         match FileNode::open(alloc, device, log) {
             Ok(node) => Ok(LogNode { node }),
             Err(fault) => Err(fault),

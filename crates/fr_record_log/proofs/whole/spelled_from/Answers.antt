@@ -3,7 +3,7 @@ use Rattle.fr_record.specs.Group.{records_of}
 use Rattle.fr_record_log.specs.Spelling.{spelled_seeded}
 use Rattle.fr_record_log.specs.Spelled.{spelled_tag, spelled_stop}
 use Rattle.fr_record_log.proofs.Putting.{all_of}
-use Rattle.fr_record_log.proofs.spelled.spelled_from.Goals as goal
+use Rattle.fr_record_log.proofs.whole.spelled_from.Goals as goal
 
 pub put_pushes-requires-clause-numbers : goal.put_pushes-requires-clause-numbers
 put_pushes-requires-clause-numbers c = c.deref.ensures.value ∙ c.in_ok-numbers.ensures

@@ -17,7 +17,9 @@ use fr_tags::Body;
 use std::alloc::Global;
 
 /// The records of a log's whole state: what is left of its seed and of its pushes, how far its tags are popped, and its
-/// lock. It costs what the records take, and puts one push at a time together.
+/// lock. A file of these alone opens to the same log as one of all the records by which it came there
+/// (`laws::spelled_law`), so they can take their place. It costs what the records take, and for each push a look-up
+/// in each of 32 tags, since a log holds batches by tag.
 pub fn spelled(alloc: Global, log: &Log) -> Result<Vec<Vec<u8>>, Memory>
     requires { IsSettledLog log.now }
     ensures records { IfOk result (λ group. records_of group.items ≡ spelled_log log.now) }

@@ -1,7 +1,7 @@
 use Rattle.std.proofs.Common.{sym, ◌∙◌, subst}
 use Rattle.fr_record_log.specs.LogFile.{IsSoundLog}
 use Rattle.fr_record_log.proofs.Settling.{settled_fresh}
-use Rattle.fr_record_log.proofs.log_node.fresh.Goals as goal
+use Rattle.fr_record_log.proofs.log_file.FileLog.fresh.Goals as goal
 
 pub returns-clause-settled : goal.returns-clause-settled
 returns-clause-settled c =

@@ -1,5 +1,5 @@
 use Rattle.fr_record_log.proofs.Putting.{at_first, from_first}
-use Rattle.fr_record_log.proofs.spelled.push_at.Goals as goal
+use Rattle.fr_record_log.proofs.whole.push_at.Goals as goal
 
 pub first_push-requires-clause-numbers : goal.first_push-requires-clause-numbers
 first_push-requires-clause-numbers c = at_first c.args.log.now.pushes c.args.index c.args.numbers c.if-index-eq0.true c.requires.numbers

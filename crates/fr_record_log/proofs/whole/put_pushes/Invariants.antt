@@ -2,7 +2,7 @@ use Rattle.std.proofs.Common.{◌≡◌, ◌<◌, ◌++◌, length, map, take, A
 use Rattle.std.specs.Prelude.{◌^◌}
 use Rattle.fr_record.specs.Group.{records_of}
 use Rattle.fr_record_log.specs.Spelling.{spelled_push}
-use Rattle.fr_record_log.proofs.spelled.put_pushes.Given as goal
+use Rattle.fr_record_log.proofs.whole.put_pushes.Given as goal
 
 -- a front of the pushes is written
 abbrev pub invariant-loop-index : goal.invariant-loop-index

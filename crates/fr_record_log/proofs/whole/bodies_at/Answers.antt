@@ -2,7 +2,7 @@ use Rattle.std.proofs.Common.{◌≡◌, ◌++◌, sym, ◌∙◌, ap, arith}
 use Rattle.fr_log.specs.Pushes.{batch_at, pushed_batches}
 use Rattle.fr_record_log.specs.Spelled.{tagged, body_of}
 use Rattle.fr_record_log.proofs.Tagged.{tagged_more, tagged_none}
-use Rattle.fr_record_log.proofs.spelled.bodies_at.Goals as goal
+use Rattle.fr_record_log.proofs.whole.bodies_at.Goals as goal
 
 pub loop-number-init : goal.loop-number-init
 loop-number-init c = c.new-bodies.ensures.items ∙ sym (tagged_none c.args.version c.args.log.now.pushes)

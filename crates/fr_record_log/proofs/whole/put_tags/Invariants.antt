@@ -2,7 +2,7 @@ use Rattle.std.proofs.Common.{◌≡◌, ◌<◌, ◌++◌, length, map, take, A
 use Rattle.std.specs.Prelude.{◌^◌}
 use Rattle.fr_record.specs.Group.{records_of}
 use Rattle.fr_record_log.specs.Spelled.{spelled_tag}
-use Rattle.fr_record_log.proofs.spelled.put_tags.Given as goal
+use Rattle.fr_record_log.proofs.whole.put_tags.Given as goal
 
 -- a front of the tags is written
 abbrev pub invariant-loop-entry : goal.invariant-loop-entry
