@@ -6,7 +6,8 @@ ghost use Rattle.fr_log.specs.Push.{IsPush};
 ghost use Rattle.fr_log.specs.Step.{after_ask, answer_of};
 ghost use Rattle.fr_node.specs.Groups.{after_all, told_all};
 ghost use Rattle.fr_compact.specs.Leading.{LeadsTo};
-ghost use Rattle.fr_compact.specs.Room.{HasNoRoom};
+ghost use Rattle.fr_compact.specs.LogSpare.{spare_log};
+ghost use Rattle.fr_compact.specs.Room.{HasNoRoom, spare_all};
 ghost use Rattle.fr_record_log.specs.Law.{written_all};
 ghost use Rattle.fr_record_log.specs.LogFile.{fresh_of, replay_log};
 ghost use Rattle.fr_record_log.specs.Spelled.{spelled_log};
@@ -14,7 +15,7 @@ ghost use Rattle.fr_record_node.specs.Node.{is_trouble};
 
 use fr_ask::{Ask, Last, Tell};
 use fr_base::{Memory, NodeFault, Version};
-use fr_compact::{CompactLog, RESERVE};
+use fr_compact::CompactLog;
 use fr_log::laws::{raise_law, tell_law};
 use fr_log::{Log, LogAsk, LogTell, Push};
 use fr_node::{Grouping, Groups};
@@ -202,12 +203,13 @@ impl Grouping<Log> for Together {
 
 // The trait's clauses are said again, of a log over its files.
 impl<F: GroupFile> Groups<CompactLog<F>> for Together {
-    ghost use Rattle.fr_compact.specs.Room.{HasNoRoom};
+    ghost use Rattle.fr_compact.specs.LogSpare.{spare_log};
+    ghost use Rattle.fr_compact.specs.Room.{HasNoRoom, spare_all};
     ghost use Rattle.fr_record_log.specs.Law.{written_all};
     ghost use Rattle.fr_record_log.specs.Spelled.{spelled_log};
 
     ghost ServesApart = { λ n asks. HasNoRoom F.room F.used F.next_room F.front n.file (spelled_log n.machine)
-        (written_all n.machine asks) RESERVE };
+        (written_all n.machine asks) (spare_all spare_log asks) };
 
     fn serve_all(
         node: &mut CompactLog<F>,
@@ -219,7 +221,7 @@ impl<F: GroupFile> Groups<CompactLog<F>> for Together {
         ensures after { IfOk result (λ served. IfSome served (λ tells. node.new.machine ≡ after_all after_ask node.old.machine asks.items)) }
         ensures apart { (result ≡ Ok None)
             → HasNoRoom F.room F.used F.next_room F.front node.old.file (spelled_log node.old.machine)
-            (written_all node.old.machine asks.items) RESERVE }
+            (written_all node.old.machine asks.items) (spare_all spare_log asks.items) }
         ensures still { (result ≡ Ok None) → node.new.machine ≡ node.old.machine }
         ensures err { OnErr result (node.new.machine ≡ node.old.machine) }
         ensures fails { F.is_failed node.new.file ≡ met_device result }
@@ -232,7 +234,7 @@ impl<F: GroupFile> Groups<CompactLog<F>> for Together {
         ensures kept { IfOk result (λ served. IfSome served (λ tells. F.Throughout (LeadsTo replay_log (fresh_of node.new.machine) (λ x. x
             ≡ node.new.machine)) node.new.file node.new.file)) }
     {
-        match node.serve_all(alloc, asks, RESERVE) {
+        match node.serve_all(alloc, asks) {
             Ok(tells) => Ok(Some(tells)),
             // Apart, as many are taken as there is room for.
             Err(NodeFault::Full) => Ok(None),
