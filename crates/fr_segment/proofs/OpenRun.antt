@@ -50,29 +50,29 @@ module _ {D : Type 0} (Led : D → D → Type 0) (disk : D → Disk) where
     current_run (Replacing put) fit d last opening leaves = opening.at_rest groups leaves
 
     -- the other one is, since it begins with a greater number
-    other_run : (health : Health) → IsFit number identity groups health → (n : ℕ) (d last : D) → IsOpening Led disk d last → IsDurable (disk d) → IsOtherLeft number identity health (disk d).content → BeginsWith n identity (disk d).content → number < n
+    other_run : (health : Health) → IsFit number identity groups health → (n : ℕ) (whose : List ℕ) (d last : D) → IsOpening Led disk d last → IsDurable (disk d) → IsOtherLeft number identity health (disk d).content → BeginsWith n whose (disk d).content → number < n
         → Throughout Led disk (IsOtherLeft number identity health) d last
-    other_run Works fit n d last opening durable older begins greater = absurd (let less = below n number identity (disk d).content begins older in omega (arith, less, greater))
-    other_run Failed fit n d last opening durable older begins greater = absurd (let less = below n number identity (disk d).content begins older in omega (arith, less, greater))
-    other_run (Appending put) fit n d last opening durable older begins greater = absurd (let less = below n number identity (disk d).content begins older in omega (arith, less, greater))
-    other_run (Replacing put) fit n d last opening durable (inl older) begins greater = absurd (let less = below n number identity (disk d).content begins older in omega (arith, less, greater))
-    other_run (Replacing put) fit n d last opening durable (inr flight) begins greater =
+    other_run Works fit n whose d last opening durable older begins greater = absurd (let less = below n number whose identity (disk d).content begins older in omega (arith, less, greater))
+    other_run Failed fit n whose d last opening durable older begins greater = absurd (let less = below n number whose identity (disk d).content begins older in omega (arith, less, greater))
+    other_run (Appending put) fit n whose d last opening durable older begins greater = absurd (let less = below n number whose identity (disk d).content begins older in omega (arith, less, greater))
+    other_run (Replacing put) fit n whose d last opening durable (inl older) begins greater = absurd (let less = below n number whose identity (disk d).content begins older in omega (arith, less, greater))
+    other_run (Replacing put) fit n whose d last opening durable (inr flight) begins greater =
         let g = group_of put.value.items in
         weaker Led disk (IsLeft [] g) (IsOtherLeft number identity (Replacing put)) (λ left it. inr it) d last (opening.in_flight [] g fit.short (rests_so (IsLeft [] g) d durable flight))
 
     module _ (health : Health) (small : number < 2 ^ 64) (headed : IsHeaded number identity groups) (fit : IsFit number identity groups health) where
       -- either device opened, beside which the other is older
-      opens : (n : ℕ) (d beside last : D) → IsDurable (disk d) → IsDurable (disk beside) → BeginsWith n identity (disk d).content → IsOlder n identity (disk beside).content → IsOpening Led disk d last
+      opens : (n : ℕ) (whose : List ℕ) (d beside last : D) → IsDurable (disk d) → IsDurable (disk beside) → BeginsWith n whose (disk d).content → IsOlder n whose (disk beside).content → IsOpening Led disk d last
           → AreLeft number identity groups health (disk d).content (disk beside).content → PairThroughout Led disk (AreLeft number identity groups health) (d, beside) (last, beside)
-      opens n d beside last durable durable_beside begins older opening (inl here) =
+      opens n whose d beside last durable durable_beside begins older opening (inl here) =
           first_moves Led disk (IsCurrentLeft groups health) (IsOtherLeft number identity health) (AreLeft number identity groups health) (λ a b x y. inl (x, y)) d last beside
           (rests_so (IsOtherLeft number identity health) beside durable_beside here.1)
           (current_run health fit d last opening (rests_so (IsCurrentLeft groups health) d durable here.0))
-      opens n d beside last durable durable_beside begins older opening (inr there) =
-          let greater : number < n = below number n identity (disk beside).content (current_begins number identity groups health small headed fit (disk beside).content there.0) older in
+      opens n whose d beside last durable durable_beside begins older opening (inr there) =
+          let greater : number < n = below number n identity whose (disk beside).content (current_begins number identity groups health small headed fit (disk beside).content there.0) older in
           first_moves Led disk (IsOtherLeft number identity health) (IsCurrentLeft groups health) (AreLeft number identity groups health) (λ a b x y. inr (y, x)) d last beside
           (rests_so (IsCurrentLeft groups health) beside durable_beside there.0)
-          (other_run health fit n d last opening durable there.1 begins greater)
+          (other_run health fit n whose d last opening durable there.1 begins greater)
 
   module _ (first second : D) where
     abbrev pub AsBefore : List ℕ → List ℕ → Type 0
@@ -87,21 +87,20 @@ module _ {D : Type 0} (Led : D → D → Type 0) (disk : D → Disk) where
         chained Led disk AsBefore (first, second) (one, second) (one, two) (one_read one run)
         (second_moves Led disk (MayLeave (disk first)) (MayLeave (disk second)) AsBefore (λ a b x y. (x, y)) one second two (at_last Led disk (MayLeave (disk first)) first one run) run_two)
 
-    module _ (identity : List ℕ) where
-      pub read_opening : (last : D × D) → PairThroughout Led disk AsBefore (first, second) last → IsPairOpening Led disk identity (first, second) last
-      read_opening last run = λ number groups health small headed fit leaves. weaker_both Led disk AsBefore (AreLeft number identity groups health) (λ a b it. leaves a b it.0 it.1) (first, second) last run
+    pub read_opening : (last : D × D) → PairThroughout Led disk AsBefore (first, second) last → IsPairOpening Led disk (first, second) last
+    read_opening last run = λ number identity groups health small headed fit leaves. weaker_both Led disk AsBefore (AreLeft number identity groups health) (λ a b it. leaves a b it.0 it.1) (first, second) last run
 
-      module _ (one two : D) (run : PairThroughout Led disk AsBefore (first, second) (one, two)) (durable_one : IsDurable (disk one)) (durable_two : IsDurable (disk two)) (n : ℕ) where
-        pub former_opening : BeginsWith n identity (disk one).content → IsOlder n identity (disk two).content → (last : D) → IsOpening Led disk one last → IsPairOpening Led disk identity (first, second) (last, two)
-        former_opening begins older last opening = λ number groups health small headed fit leaves.
-            let so_far = read_opening (one, two) run number groups health small headed fit leaves in
-            chained Led disk (AreLeft number identity groups health) (first, second) (one, two) (last, two) so_far
-            (opens number identity groups health small headed fit n one two last durable_one durable_two begins older opening
-            (at_end Led disk (AreLeft number identity groups health) (first, second) (one, two) so_far (disk one).content (disk two).content (content_left (disk one)) (content_left (disk two))))
+    module _ (whose : List ℕ) (one two : D) (run : PairThroughout Led disk AsBefore (first, second) (one, two)) (durable_one : IsDurable (disk one)) (durable_two : IsDurable (disk two)) (n : ℕ) where
+      pub former_opening : BeginsWith n whose (disk one).content → IsOlder n whose (disk two).content → (last : D) → IsOpening Led disk one last → IsPairOpening Led disk (first, second) (last, two)
+      former_opening begins older last opening = λ number identity groups health small headed fit leaves.
+          let so_far = read_opening (one, two) run number identity groups health small headed fit leaves in
+          chained Led disk (AreLeft number identity groups health) (first, second) (one, two) (last, two) so_far
+          (opens number identity groups health small headed fit n whose one two last durable_one durable_two begins older opening
+          (at_end Led disk (AreLeft number identity groups health) (first, second) (one, two) so_far (disk one).content (disk two).content (content_left (disk one)) (content_left (disk two))))
 
-        pub latter_opening : BeginsWith n identity (disk two).content → IsOlder n identity (disk one).content → (last : D) → IsOpening Led disk two last → IsPairOpening Led disk identity (first, second) (last, one)
-        latter_opening begins older last opening = λ number groups health small headed fit leaves.
-            let so_far = exchanged Led disk (AreLeft number identity groups health) (left_exchanged number identity groups health) (first, second) one two (read_opening (one, two) run number groups health small headed fit leaves) in
-            chained Led disk (AreLeft number identity groups health) (first, second) (two, one) (last, one) so_far
-            (opens number identity groups health small headed fit n two one last durable_two durable_one begins older opening
-            (at_end Led disk (AreLeft number identity groups health) (first, second) (two, one) so_far (disk two).content (disk one).content (content_left (disk two)) (content_left (disk one))))
+      pub latter_opening : BeginsWith n whose (disk two).content → IsOlder n whose (disk one).content → (last : D) → IsOpening Led disk two last → IsPairOpening Led disk (first, second) (last, one)
+      latter_opening begins older last opening = λ number identity groups health small headed fit leaves.
+          let so_far = exchanged Led disk (AreLeft number identity groups health) (left_exchanged number identity groups health) (first, second) one two (read_opening (one, two) run number identity groups health small headed fit leaves) in
+          chained Led disk (AreLeft number identity groups health) (first, second) (two, one) (last, one) so_far
+          (opens number identity groups health small headed fit n whose two one last durable_two durable_one begins older opening
+          (at_end Led disk (AreLeft number identity groups health) (first, second) (two, one) so_far (disk two).content (disk one).content (content_left (disk two)) (content_left (disk one))))

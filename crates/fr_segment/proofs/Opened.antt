@@ -39,9 +39,9 @@ pub begins_brief : (n : ℕ) (identity file : List ℕ) → BeginsWith n identit
 begins_brief n identity file begins = omega (arith, begins.short, led_long (header n identity) begins.more, length-header n identity)
 
 -- a file that begins with a number beside which the other is older
-pub below : (k l : ℕ) (identity file : List ℕ) → BeginsWith k identity file → IsOlder l identity file → k < l
-below k l identity file begins (inl nothing) = absurd (never_both k identity file begins nothing)
-below k l identity file begins (inr older) = let same = begins_once k older.0 identity identity file begins older.2 in omega (arith, same.0, older.1)
+pub below : (k l : ℕ) (one other file : List ℕ) → BeginsWith k one file → IsOlder l other file → k < l
+below k l one other file begins (inl nothing) = absurd (never_both k one file begins nothing)
+below k l one other file begins (inr older) = let same = begins_once k older.0 one other file begins older.2 in omega (arith, same.0, older.1)
 
 module _ {D : Type 0} (disk : D → Disk) (current : SegmentFile D) (other : D) (number : ℕ) (identity : List ℕ) (works : current.is_failed ≡ false) (rests : (left : List ℕ) → MayLeave (disk current.device) left → IsAtRest current.groups left) (durable : IsDurable (disk other)) where
   -- a pair that was opened
@@ -79,8 +79,8 @@ pair_current number identity records a b begins older pair = go pair.turns
     go : AreTurns pair.number identity pair.groups a b ⊎ AreTurns pair.number identity pair.groups b a → (gs : List Group) × StandsFor a gs
     go (inl x) = (pair.groups, x.stands)
     go (inr x) =
-        let up = below number pair.number identity a begins x.older in
-        let down = below pair.number number identity b (headed_begins pair.number identity pair.groups b x.small x.headed x.stands) older in
+        let up = below number pair.number identity identity a begins x.older in
+        let down = below pair.number number identity identity b (headed_begins pair.number identity pair.groups b x.small x.headed x.stands) older in
         absurd (omega (arith, up, down))
 
 older_foreign : (l : ℕ) (identity file : List ℕ) → IsForeign identity file → IsOlder l identity file → ⊥

@@ -22,13 +22,13 @@ PairWholeOrNot =
     → AreLeft number identity groups health a b → HasRecords identity (λ rs. (rs ≡ own_records groups) ⊎ (owed_by (own_records groups) health ≡ Some rs)) a b
 
 module _ {D : Type 0} (Led : D → D → Type 0) (disk : D → Disk) where
-  -- calls led from the first two devices to the last, and whatever a crash may have left before them, two files in turn at
-  -- rest or with a call in flight, a crash at any moment of them leaves it
-  abbrev pub IsPairOpening : List ℕ → D × D → D × D → Type 0
-  IsPairOpening identity first last =
-      (number : ℕ) (groups : List Group) (health : Health) → number < 2 ^ 64 → IsHeaded number identity groups → IsFit number identity groups health
+  -- calls led from the first two devices to the last, and whatever a crash may have left before them, two files in turn of
+  -- any owner, at rest or with a call in flight, a crash at any moment of them leaves it
+  abbrev pub IsPairOpening : D × D → D × D → Type 0
+  IsPairOpening first last =
+      (number : ℕ) (identity : List ℕ) (groups : List Group) (health : Health) → number < 2 ^ 64 → IsHeaded number identity groups → IsFit number identity groups health
       → LeavesBoth Led disk (AreLeft number identity groups health) first → PairThroughout Led disk (AreLeft number identity groups health) first last
 
   -- the devices went with a refusal: such calls led to where they were
-  abbrev pub HavePairGone : List ℕ → D × D → Type 0
-  HavePairGone identity first = (last : D × D) × IsPairOpening identity first last
+  abbrev pub HavePairGone : D × D → Type 0
+  HavePairGone first = (last : D × D) × IsPairOpening first last

@@ -62,8 +62,8 @@ impl<D: Device> Segments<D> {
         ensures none { (result ≡ Err OpenFault.Unmade) ⊎ (result ≡ Err OpenFault.Stranger) ⊎ (result ≡ Err OpenFault.Broken)
             → (records : List (List ℕ)) → PairStandsFor identity records (D.disk first).content (D.disk second).content → ⊥ }
         ensures unmade { (result ≡ Err OpenFault.Unmade) → IsBlank (D.disk first).content × IsBlank (D.disk second).content }
-        ensures any_moment { IfOk result (λ pair. IsPairOpening D.Led D.disk identity (first, second) (pair.current, pair.other)) }
-        ensures gone { OnErr result (HavePairGone D.Led D.disk identity (first, second)) }
+        ensures any_moment { IfOk result (λ pair. IsPairOpening D.Led D.disk (first, second) (pair.current, pair.other)) }
+        ensures gone { OnErr result (HavePairGone D.Led D.disk (first, second)) }
         ensures capacity { IfOk result (λ pair. ((D.capacity_of pair.current ≡ D.capacity_of first) × (D.capacity_of pair.other ≡ D.capacity_of second))
             ⊎ ((D.capacity_of pair.current ≡ D.capacity_of second) × (D.capacity_of pair.other ≡ D.capacity_of first))) }
         ensures failures { IfOk result (λ pair. D.failures_of pair.current + D.failures_of pair.other ≡ D.failures_of first + D.failures_of second) }

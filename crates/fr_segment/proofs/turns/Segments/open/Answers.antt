@@ -20,7 +20,7 @@ returns-in-Err-clause-none g c told records pair =
 
 pub returns-in-Err-clause-gone : goal.returns-in-Err-clause-gone
 returns-in-Err-clause-gone g c =
-    ((c.read_first.new.device, c.args.second), read_opening g.D.Device.Led g.D.Device.disk c.args.first c.args.second c.args.identity (c.read_first.new.device, c.args.second) (one_read g.D.Device.Led g.D.Device.disk c.args.first c.args.second c.read_first.new.device c.read_first.ensures.any_moment))
+    ((c.read_first.new.device, c.args.second), read_opening g.D.Device.Led g.D.Device.disk c.args.first c.args.second (c.read_first.new.device, c.args.second) (one_read g.D.Device.Led g.D.Device.disk c.args.first c.args.second c.read_first.new.device c.read_first.ensures.any_moment))
 
 pub returns-in-Err-read_first-clause-none : goal.returns-in-Err-read_first-clause-none
 returns-in-Err-read_first-clause-none g c told records pair =
@@ -31,7 +31,7 @@ returns-in-Err-read_first-clause-none g c told records pair =
 pub returns-in-Err-read_first-clause-gone : goal.returns-in-Err-read_first-clause-gone
 returns-in-Err-read_first-clause-gone g c =
     let run = both_read g.D.Device.Led g.D.Device.disk c.args.first c.args.second c.read_first.new.device c.read_first-2.new.device c.read_first.ensures.any_moment c.read_first-2.ensures.any_moment in
-    ((c.read_first.new.device, c.read_first-2.new.device), read_opening g.D.Device.Led g.D.Device.disk c.args.first c.args.second c.args.identity (c.read_first.new.device, c.read_first-2.new.device) run)
+    ((c.read_first.new.device, c.read_first-2.new.device), read_opening g.D.Device.Led g.D.Device.disk c.args.first c.args.second (c.read_first.new.device, c.read_first-2.new.device) run)
 
 pub with-requires-clause-older : goal.with-requires-clause-older
 with-requires-clause-older g c =
@@ -62,8 +62,8 @@ returns-in-Ok-Former-clause-any_moment g c =
     let run = both_read g.D.Device.Led g.D.Device.disk c.args.first c.args.second c.read_first.new.device c.read_first-2.new.device c.read_first.ensures.any_moment c.read_first-2.ensures.any_moment in
     let begins = turn_begins c.in-Ok-Former.number c.args.identity (g.D.Device.disk c.args.first).content (g.D.Device.disk c.read_first.new.device).content c.in-Ok.former c.read_first.ensures.stands.same one turn.0 in
     let older = turn_older c.in-Ok-Former.number c.args.identity (g.D.Device.disk c.args.second).content (g.D.Device.disk c.read_first-2.new.device).content c.in-Ok-read_first.latter c.read_first-2.ensures.stands.same two turn.1 in
-    ok_both c.with.result (λ pair. IsOpening g.D.Device.Led g.D.Device.disk c.read_first.new.device pair.current) (λ pair. pair.other ≡ c.read_first-2.new.device) (λ pair. IsPairOpening g.D.Device.Led g.D.Device.disk c.args.identity (c.args.first, c.args.second) (pair.current, pair.other))
-    (λ pair opening same. subst (λ d. IsPairOpening g.D.Device.Led g.D.Device.disk c.args.identity (c.args.first, c.args.second) (pair.current, d)) (sym same) (former_opening g.D.Device.Led g.D.Device.disk c.args.first c.args.second c.args.identity c.read_first.new.device c.read_first-2.new.device run c.in-Ok.ensures.durable c.in-Ok-read_first.ensures.durable c.in-Ok-Former.number begins older pair.current opening)) c.with.ensures.opening c.with.ensures.beside
+    ok_both c.with.result (λ pair. IsOpening g.D.Device.Led g.D.Device.disk c.read_first.new.device pair.current) (λ pair. pair.other ≡ c.read_first-2.new.device) (λ pair. IsPairOpening g.D.Device.Led g.D.Device.disk (c.args.first, c.args.second) (pair.current, pair.other))
+    (λ pair opening same. subst (λ d. IsPairOpening g.D.Device.Led g.D.Device.disk (c.args.first, c.args.second) (pair.current, d)) (sym same) (former_opening g.D.Device.Led g.D.Device.disk c.args.first c.args.second c.args.identity c.read_first.new.device c.read_first-2.new.device run c.in-Ok.ensures.durable c.in-Ok-read_first.ensures.durable c.in-Ok-Former.number begins older pair.current opening)) c.with.ensures.opening c.with.ensures.beside
 
 pub returns-in-Ok-Former-clause-gone : goal.returns-in-Ok-Former-clause-gone
 returns-in-Ok-Former-clause-gone g c =
@@ -75,7 +75,7 @@ returns-in-Ok-Former-clause-gone g c =
     let run = both_read g.D.Device.Led g.D.Device.disk c.args.first c.args.second c.read_first.new.device c.read_first-2.new.device c.read_first.ensures.any_moment c.read_first-2.ensures.any_moment in
     let begins = turn_begins c.in-Ok-Former.number c.args.identity (g.D.Device.disk c.args.first).content (g.D.Device.disk c.read_first.new.device).content c.in-Ok.former c.read_first.ensures.stands.same one turn.0 in
     let older = turn_older c.in-Ok-Former.number c.args.identity (g.D.Device.disk c.args.second).content (g.D.Device.disk c.read_first-2.new.device).content c.in-Ok-read_first.latter c.read_first-2.ensures.stands.same two turn.1 in
-    err_so c.with.result ((last : g.row.D.Denot) × IsOpening g.D.Device.Led g.D.Device.disk c.read_first.new.device last) (HavePairGone g.D.Device.Led g.D.Device.disk c.args.identity (c.args.first, c.args.second)) (λ it. ((it.0, c.read_first-2.new.device), former_opening g.D.Device.Led g.D.Device.disk c.args.first c.args.second c.args.identity c.read_first.new.device c.read_first-2.new.device run c.in-Ok.ensures.durable c.in-Ok-read_first.ensures.durable c.in-Ok-Former.number begins older it.0 it.1)) c.with.ensures.gone
+    err_so c.with.result ((last : g.row.D.Denot) × IsOpening g.D.Device.Led g.D.Device.disk c.read_first.new.device last) (HavePairGone g.D.Device.Led g.D.Device.disk (c.args.first, c.args.second)) (λ it. ((it.0, c.read_first-2.new.device), former_opening g.D.Device.Led g.D.Device.disk c.args.first c.args.second c.args.identity c.read_first.new.device c.read_first-2.new.device run c.in-Ok.ensures.durable c.in-Ok-read_first.ensures.durable c.in-Ok-Former.number begins older it.0 it.1)) c.with.ensures.gone
 
 pub returns-in-Ok-Latter-clause-records : goal.returns-in-Ok-Latter-clause-records
 returns-in-Ok-Latter-clause-records g c =
@@ -97,8 +97,8 @@ returns-in-Ok-Latter-clause-any_moment g c =
     let run = both_read g.D.Device.Led g.D.Device.disk c.args.first c.args.second c.read_first.new.device c.read_first-2.new.device c.read_first.ensures.any_moment c.read_first-2.ensures.any_moment in
     let begins = turn_begins c.in-Ok-Latter.number c.args.identity (g.D.Device.disk c.args.second).content (g.D.Device.disk c.read_first-2.new.device).content c.in-Ok-read_first.latter c.read_first-2.ensures.stands.same two turn.0 in
     let older = turn_older c.in-Ok-Latter.number c.args.identity (g.D.Device.disk c.args.first).content (g.D.Device.disk c.read_first.new.device).content c.in-Ok.former c.read_first.ensures.stands.same one turn.1 in
-    ok_both c.with-in-Ok-Latter.result (λ pair. IsOpening g.D.Device.Led g.D.Device.disk c.read_first-2.new.device pair.current) (λ pair. pair.other ≡ c.read_first.new.device) (λ pair. IsPairOpening g.D.Device.Led g.D.Device.disk c.args.identity (c.args.first, c.args.second) (pair.current, pair.other))
-    (λ pair opening same. subst (λ d. IsPairOpening g.D.Device.Led g.D.Device.disk c.args.identity (c.args.first, c.args.second) (pair.current, d)) (sym same) (latter_opening g.D.Device.Led g.D.Device.disk c.args.first c.args.second c.args.identity c.read_first.new.device c.read_first-2.new.device run c.in-Ok.ensures.durable c.in-Ok-read_first.ensures.durable c.in-Ok-Latter.number begins older pair.current opening)) c.with-in-Ok-Latter.ensures.opening c.with-in-Ok-Latter.ensures.beside
+    ok_both c.with-in-Ok-Latter.result (λ pair. IsOpening g.D.Device.Led g.D.Device.disk c.read_first-2.new.device pair.current) (λ pair. pair.other ≡ c.read_first.new.device) (λ pair. IsPairOpening g.D.Device.Led g.D.Device.disk (c.args.first, c.args.second) (pair.current, pair.other))
+    (λ pair opening same. subst (λ d. IsPairOpening g.D.Device.Led g.D.Device.disk (c.args.first, c.args.second) (pair.current, d)) (sym same) (latter_opening g.D.Device.Led g.D.Device.disk c.args.first c.args.second c.args.identity c.read_first.new.device c.read_first-2.new.device run c.in-Ok.ensures.durable c.in-Ok-read_first.ensures.durable c.in-Ok-Latter.number begins older pair.current opening)) c.with-in-Ok-Latter.ensures.opening c.with-in-Ok-Latter.ensures.beside
 
 pub returns-in-Ok-Latter-clause-gone : goal.returns-in-Ok-Latter-clause-gone
 returns-in-Ok-Latter-clause-gone g c =
@@ -110,7 +110,7 @@ returns-in-Ok-Latter-clause-gone g c =
     let run = both_read g.D.Device.Led g.D.Device.disk c.args.first c.args.second c.read_first.new.device c.read_first-2.new.device c.read_first.ensures.any_moment c.read_first-2.ensures.any_moment in
     let begins = turn_begins c.in-Ok-Latter.number c.args.identity (g.D.Device.disk c.args.second).content (g.D.Device.disk c.read_first-2.new.device).content c.in-Ok-read_first.latter c.read_first-2.ensures.stands.same two turn.0 in
     let older = turn_older c.in-Ok-Latter.number c.args.identity (g.D.Device.disk c.args.first).content (g.D.Device.disk c.read_first.new.device).content c.in-Ok.former c.read_first.ensures.stands.same one turn.1 in
-    err_so c.with-in-Ok-Latter.result ((last : g.row.D.Denot) × IsOpening g.D.Device.Led g.D.Device.disk c.read_first-2.new.device last) (HavePairGone g.D.Device.Led g.D.Device.disk c.args.identity (c.args.first, c.args.second)) (λ it. ((it.0, c.read_first.new.device), latter_opening g.D.Device.Led g.D.Device.disk c.args.first c.args.second c.args.identity c.read_first.new.device c.read_first-2.new.device run c.in-Ok.ensures.durable c.in-Ok-read_first.ensures.durable c.in-Ok-Latter.number begins older it.0 it.1)) c.with-in-Ok-Latter.ensures.gone
+    err_so c.with-in-Ok-Latter.result ((last : g.row.D.Denot) × IsOpening g.D.Device.Led g.D.Device.disk c.read_first-2.new.device last) (HavePairGone g.D.Device.Led g.D.Device.disk (c.args.first, c.args.second)) (λ it. ((it.0, c.read_first.new.device), latter_opening g.D.Device.Led g.D.Device.disk c.args.first c.args.second c.args.identity c.read_first.new.device c.read_first-2.new.device run c.in-Ok.ensures.durable c.in-Ok-read_first.ensures.durable c.in-Ok-Latter.number begins older it.0 it.1)) c.with-in-Ok-Latter.ensures.gone
 
 pub returns-in-Err-turn_of-clause-none : goal.returns-in-Err-turn_of-clause-none
 returns-in-Err-turn_of-clause-none g c told records pair =
@@ -123,4 +123,4 @@ returns-in-Err-turn_of-clause-none g c told records pair =
 pub returns-in-Err-turn_of-clause-gone : goal.returns-in-Err-turn_of-clause-gone
 returns-in-Err-turn_of-clause-gone g c =
     let run = both_read g.D.Device.Led g.D.Device.disk c.args.first c.args.second c.read_first.new.device c.read_first-2.new.device c.read_first.ensures.any_moment c.read_first-2.ensures.any_moment in
-    ((c.read_first.new.device, c.read_first-2.new.device), read_opening g.D.Device.Led g.D.Device.disk c.args.first c.args.second c.args.identity (c.read_first.new.device, c.read_first-2.new.device) run)
+    ((c.read_first.new.device, c.read_first-2.new.device), read_opening g.D.Device.Led g.D.Device.disk c.args.first c.args.second (c.read_first.new.device, c.read_first-2.new.device) run)
