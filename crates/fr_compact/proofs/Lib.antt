@@ -1,3 +1,4 @@
+mod CellBack
 mod AskLemmas
 mod ReadLemmas
 mod NodeLemmas

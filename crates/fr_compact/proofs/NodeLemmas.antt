@@ -1,6 +1,7 @@
 -- Records that lead a machine to a state, and what a crash leaves of a node.
 use Rattle.std.proofs.Common.{◌≡◌, ◌⊎◌, inl, inr, ℕ, Bool, true, false, List, [], ◌∷◌, ◌++◌, refl, sym, ap, ◌∙◌, subst, Vec, ◌<◌, ◌≤◌, length, arith, length-append}
-use Rattle.std.specs.Prelude.{Option, None, Some, fold, Result, Ok, Err, OnOk, OnErr, IfErr, ◌||◌}
+use Rattle.std.specs.Prelude.{Option, None, Some, fold, Result, Ok, Err, OnOk, OnErr, IfErr, ◌||◌, nat_lt, ◌+◌}
+use Rattle.std.proofs.lemmas.Bool.{ltb-true, ltb-false}
 use Rattle.std.specs.declared.alloc.Global.{Global}
 use Rattle.std.proofs.lemmas.List.{append-nil}
 use Rattle.std.proofs.lemmas.List.Sums.{fold-append}
@@ -241,3 +242,11 @@ on_if_err (Err e) P Q f p = f e p
 pub at_err : {T E : Type 0} (r : Result T E) (P : E → Type 0) → ((e : E) → P e) → IfErr r P
 at_err (Ok x) P f = tt
 at_err (Err e) P f = f e
+
+-- what is free behind a group that had room
+pub has_spare : (room used size spare room_now used_now : ℕ) → room_now ≡ room → used_now ≡ used + size → (room < used + size + 10 + spare → ⊥) → used_now + 10 + spare ≤ room_now
+has_spare room used size spare room_now used_now room_is used_is fits = go (nat_lt room (used + size + 10 + spare)) refl
+  where
+    go : (b : Bool) → nat_lt room (used + size + 10 + spare) ≡ b → used_now + 10 + spare ≤ room_now
+    go true less = absurd (fits (ltb-true room (used + size + 10 + spare) less))
+    go false less = let most = ltb-false room (used + size + 10 + spare) less in omega (arith, room_is, used_is, most)

@@ -1,4 +1,4 @@
 pub mod Leading
 pub mod Room
+pub mod LogSpare
 pub mod Node
-pub mod CellBack

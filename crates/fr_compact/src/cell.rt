@@ -3,12 +3,17 @@ ghost use Rattle.std.specs.Prelude.{◌≡◌, ◌≤◌, ◌<◌, ◌^◌, leng
 ghost use Rattle.fr_record_node.specs.CellFile.{spelled_cell};
 
 use crate::compact::Compact;
+use crate::compact_node::CompactNode;
 use fr_base::Memory;
-use fr_register::Cell;
+use fr_register::{Cell, CellAsk};
 use std::alloc::Global;
 
 /// The bytes of the record before the value.
 const FRONT: usize = 16;
+
+/// A coordinator's cell over a file that lets go. It is made by `CompactNode::begin` or `CompactNode::read` with a cell
+/// that was never asked.
+pub type CompactCell<F> = CompactNode<Cell, F>;
 
 /// The record of a cell: the ballot that it promised, that of its last write, and the value of that.
 fn spelled(alloc: Global, cell: &Cell) -> Result<Vec<u8>, Memory>
@@ -27,14 +32,21 @@ fn spelled(alloc: Global, cell: &Cell) -> Result<Vec<u8>, Memory>
 impl Compact for Cell {
     ghost use Rattle.std.specs.Prelude.{◌∷◌, []};
     ghost use Rattle.fr_record_node.specs.CellFile.{spelled_cell};
-    ghost use Rattle.fr_register.specs.CellState.{fresh_cell};
-    ghost use Rattle.fr_compact.specs.CellBack.{read_back};
 
     ghost spelled = { λ c. spelled_cell c ∷ [] };
+
+    ghost spare = { λ a. 0 };
 
     fn spell(&self, alloc: Global) -> Result<Vec<Vec<u8>>, Memory> {
         let mut group = Vec::new(alloc);
         group.push(spelled(alloc, self)?)?;
         Ok(group)
     }
+
+    /// None: each write spells the whole cell, so the cell never grows beyond its one record.
+    fn spare(_ask: &CellAsk) -> usize {
+        0
+    }
+
+    fn leads_back() {}
 }

@@ -6,7 +6,7 @@ ghost use Rattle.fr_record_node.specs.Several.{after_all, told_all, written_all}
 ghost use Rattle.fr_record_node.specs.Replay.{replayed};
 ghost use Rattle.fr_record_node.specs.Node.{is_trouble};
 ghost use Rattle.fr_compact.specs.Leading.{LeadsTo};
-ghost use Rattle.fr_compact.specs.Room.{HasNoRoom};
+ghost use Rattle.fr_compact.specs.Room.{HasNoRoom, HasSpare, spare_all};
 
 mod held;
 mod letting_go;
@@ -23,7 +23,7 @@ use held::{Held, Unserved};
 use letting_go::let_go;
 use reading::read_all;
 use reopening::{reopen_held, reopen_idle};
-use serving::serve_group;
+use serving::{serve_group, spare_of};
 use std::alloc::Global;
 use std::marker::Model;
 
@@ -115,15 +115,12 @@ where
     }
 
     /// Answers asks in order as the plain machine does, with all their records in one group: after a crash all of it
-    /// is there, or nothing. So many bytes stay free behind it. If the file lacks room it lets go first. If no ask
-    /// changes anything, as in an empty list, the file stays as it is. Memory holds the records of all asks at once,
-    /// and a copy of each ask; while the file lets go, the records of the state.
-    pub fn serve_all(
-        &mut self,
-        alloc: Global,
-        asks: Vec<M::Ask>,
-        spare: usize,
-    ) -> Result<Vec<M::Tell>, NodeFault>
+    /// is there, or nothing. As many bytes stay free behind it as any of the asks leaves free (`Compact::spare`). If the
+    /// file lacks room it lets go first, and `Full` says that there would be none behind the records of the state either:
+    /// how long a list may be depends on these. If no ask changes anything, as in an empty list, the file stays as it
+    /// is. Memory holds the records of all asks at once, and a copy of each ask; while the file lets go, the records of
+    /// the state.
+    pub fn serve_all(&mut self, alloc: Global, asks: Vec<M::Ask>) -> Result<Vec<M::Tell>, NodeFault>
         ensures told { IfOk result (λ tells. tells.items ≡ told_all M.after M.told self.old.machine asks.items) }
         ensures after { OnOk result (self.new.machine ≡ after_all M.after self.old.machine asks.items) }
         ensures still { written_all M.after M.written self.old.machine asks.items ≡ [] → self.new.file ≡ self.old.file }
@@ -135,7 +132,9 @@ where
             → F.failures self.new.file ≡ min (F.failures self.old.file + 1) (2 ^ 64 - 1) }
         ensures full { (result ≡ Err NodeFault.Full)
             → HasNoRoom F.room F.used F.next_room F.front self.old.file (M.spelled self.old.machine)
-            (written_all M.after M.written self.old.machine asks.items) spare }
+            (written_all M.after M.written self.old.machine asks.items) (spare_all M.spare asks.items) }
+        ensures spare { OnOk result (written_all M.after M.written self.old.machine asks.items ≢ []
+            → HasSpare F.room F.used self.new.file (spare_all M.spare asks.items)) }
         ensures owes { (result ≡ Err NodeFault.Device) → self.new.owed ≡ Some (after_all M.after self.old.machine asks.items) }
         ensures owes_still { result ≢ Err NodeFault.Device → self.new.owed ≡ self.old.owed }
         ensures trouble { IfErr result (λ fault. fault ≢ NodeFault.Failed → IsTrue (is_trouble fault)) }
@@ -151,6 +150,8 @@ where
         if asks.is_empty() {
             return Ok(Vec::new(alloc));
         }
+        M::leads_back();
+        let spare = spare_of::<M>(asks.as_slice());
         match serve_group(
             &mut self.file,
             &mut self.machine,
@@ -198,6 +199,7 @@ where
         if self.file.is_failed() {
             return Err(NodeFault::Failed);
         }
+        M::leads_back();
         let_go(&mut self.file, &self.machine, alloc)
     }
 
@@ -248,7 +250,7 @@ where
 
     ghost failures = { λ n. F.failures n.file };
 
-    ghost LacksRoom = { λ n ask. HasNoRoom F.room F.used F.next_room F.front n.file (M.spelled n.machine) (M.written n.machine ask) 0 };
+    ghost LacksRoom = { λ n ask. HasNoRoom F.room F.used F.next_room F.front n.file (M.spelled n.machine) (M.written n.machine ask) (M.spare ask) };
 
     ghost Throughout = { λ P n later. F.Throughout (LeadsTo M.replay (M.fresh n.machine) P) n.file later.file };
 
@@ -266,7 +268,8 @@ where
             → F.failures self.new.file ≡ min (F.failures self.old.file + 1) (2 ^ 64 - 1) }
         ensures full { (result ≡ Err NodeFault.Full)
             → HasNoRoom F.room F.used F.next_room F.front self.old.file (M.spelled self.old.machine)
-            (M.written self.old.machine ask) 0 }
+            (M.written self.old.machine ask) (M.spare ask) }
+        ensures spare { OnOk result (M.written self.old.machine ask ≢ [] → HasSpare F.room F.used self.new.file (M.spare ask)) }
         ensures owes { (result ≡ Err NodeFault.Device) → self.new.owed ≡ Some (M.after self.old.machine ask) }
         ensures owes_still { result ≢ Err NodeFault.Device → self.new.owed ≡ self.old.owed }
         ensures trouble { IfErr result (λ fault. fault ≢ NodeFault.Failed → IsTrue (is_trouble fault)) }
@@ -280,7 +283,7 @@ where
             Ok(asks) => asks,
             Err(fault) => return Err(fault),
         };
-        match self.serve_all(alloc, asks, 0) {
+        match self.serve_all(alloc, asks) {
             Ok(mut tells) => match tells.pop() {
                 Some(tell) => Ok(tell),
                 None => unreachable!(),

@@ -14,8 +14,10 @@
 //! 3. A failed device leaves the file with its records or with those that it owes. If asks were in flight those are its
 //!    records and then the asks' (`flying`). Otherwise they lead to the state too, and no ask was written (`resting`).
 //!    So `reopen` answers `After` only if asks were in flight and the file is found longer.
-//! 4. The file lets go in an ask only if what stays takes half of the next room at most. Otherwise a state that nearly
-//!    fills the file would be written anew at each of the few asks for which there is room.
+//! 4. For an ask that is to leave bytes free, the file lets go only if what stays takes half of the next room at most.
+//!    Otherwise a state that nearly fills the file would be written anew at each of the few asks for which there is room.
+//! 5. For an ask that leaves none it lets go whatever stays: such an ask may make the state shorter, and if it were
+//!    refused nothing else could. The bytes that the others left free hold many of these before the file lets go again.
 #![tactic(auto)]
 
 mod cell;
@@ -24,9 +26,8 @@ mod compact_node;
 mod fault;
 mod log;
 mod log_node;
-#[cfg(test)]
-mod tests;
 
+pub use cell::CompactCell;
 pub use compact::Compact;
 pub use compact_node::CompactNode;
-pub use log_node::{CompactLog, RESERVE};
+pub use log_node::CompactLog;

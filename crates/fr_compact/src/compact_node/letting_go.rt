@@ -17,6 +17,7 @@ pub(super) fn let_go<M: Compact, F: GroupFile>(
     machine: &M,
     alloc: Global,
 ) -> Result<(), NodeFault>
+    requires sound { M.IsSound machine.now }
     ensures ok { OnOk result (F.records file.new ≡ M.spelled machine.now) }
     ensures used { OnOk result (F.used file.new ≡ begun_size (F.front file.old) (M.spelled machine.now)) }
     ensures room { OnOk result ((F.room file.new ≡ F.next_room file.old) × (F.next_room file.new ≡ F.room file.old)) }
@@ -47,13 +48,16 @@ pub(super) fn let_go<M: Compact, F: GroupFile>(
     }
 }
 
-/// Lets go for a group that lacked room. `Full` if what spells the state takes more than half of the next room.
+/// Lets go for a group that lacked room, and is to leave so many bytes free. If it is to leave some, `Full` if what
+/// spells the state takes more than half of the next room.
 pub(super) fn make_room<M: Compact, F: GroupFile>(
     file: &mut F,
     machine: &M,
     alloc: Global,
+    spare: usize,
 ) -> Result<(), NodeFault>
     requires works { F.is_failed file.old ≡ false }
+    requires sound { M.IsSound machine.now }
     ensures ok { OnOk result (F.records file.new ≡ M.spelled machine.now) }
     ensures used { OnOk result (F.used file.new ≡ begun_size (F.front file.old) (M.spelled machine.now)) }
     ensures room { OnOk result (F.room file.new ≡ F.next_room file.old) }
@@ -61,7 +65,9 @@ pub(super) fn make_room<M: Compact, F: GroupFile>(
     ensures fails { F.is_failed file.new ≡ met_device result }
     ensures device { (result ≡ Err NodeFault.Device) → F.failures file.new ≡ min (F.failures file.old + 1) (2 ^ 64 - 1) }
     ensures no_failure { OnOk result (F.failures file.new ≡ F.failures file.old) }
-    ensures full { (result ≡ Err NodeFault.Full) → F.next_room file.old < 2 * (begun_size (F.front file.old) (M.spelled machine.now) + 10) }
+    ensures full { (result ≡ Err NodeFault.Full)
+        → (F.next_room file.old < begun_size (F.front file.old) (M.spelled machine.now) + 10)
+        ⊎ ((0 < spare) × (F.next_room file.old < 2 * (begun_size (F.front file.old) (M.spelled machine.now) + 10))) }
     ensures owes { (result ≡ Err NodeFault.Device) → F.owed file.new ≡ Some (M.spelled machine.now) }
     ensures owes_still { result ≢ Err NodeFault.Device → F.owed file.new ≡ F.owed file.old }
     ensures leaves { LeavesOwn F.records F.owed F.Throughout file.new }
@@ -76,8 +82,9 @@ pub(super) fn make_room<M: Compact, F: GroupFile>(
     let taken = group_len(state.as_slice())
         .saturating_add(sizes.front)
         .saturating_add(24);
-    // At most half, or a state that nearly fills the file is written anew at each ask (invariant 4).
-    if taken > sizes.next_room / 2 {
+    // At most half, or a state that nearly fills the file is written anew at each ask (invariant 4). An ask that leaves
+    // no bytes free may be the one that makes the state shorter (invariant 5).
+    if spare > 0 && taken > sizes.next_room / 2 {
         return Err(NodeFault::Full);
     }
     match file.replace(alloc, state.as_slice()) {

@@ -5,7 +5,7 @@ ghost use Rattle.fr_record_node.specs.Several.{after_all, told_all, written_all}
 ghost use Rattle.fr_record_node.specs.Replay.{replayed};
 ghost use Rattle.fr_record_node.specs.Node.{is_trouble};
 ghost use Rattle.fr_compact.specs.Leading.{LeadsTo};
-ghost use Rattle.fr_compact.specs.Room.{IsFullFor, IsNoHelp, HasNoRoom};
+ghost use Rattle.fr_compact.specs.Room.{IsFullFor, IsNoHelp, HasNoRoom, HasSpare, spare_all};
 ghost use Rattle.fr_compact.specs.Node.{met_fault, LeavesOwn};
 
 use crate::compact::Compact;
@@ -38,6 +38,7 @@ where
     ensures replays { replayed M.replay (Some (M.fresh machine.new)) (F.records file.new) ≡ Some machine.new }
     ensures sound { M.IsSound machine.new }
     ensures kept { OnOk result (F.Throughout (λ rs. rs ≡ F.records file.new) file.new file.new) }
+    ensures spare { OnOk result (written_all M.after M.written machine.old asks.now ≢ [] → HasSpare F.room F.used file.new spare) }
     ensures still { written_all M.after M.written machine.old asks.now ≡ [] → file.new ≡ file.old }
     ensures err { OnErr result (machine.new ≡ machine.old) }
     ensures err_records { OnErr result (F.records file.new ≡ F.records file.old) }
@@ -97,6 +98,7 @@ where
     ensures replays { replayed M.replay (Some (M.fresh machine.new)) (F.records file.new) ≡ Some machine.new }
     ensures sound { M.IsSound machine.new }
     ensures kept { OnOk result (F.Throughout (λ rs. rs ≡ F.records file.new) file.new file.new) }
+    ensures spare { OnOk result (written_all M.after M.written machine.old asks.now ≢ [] → HasSpare F.room F.used file.new spare) }
     ensures err { OnErr result (machine.new ≡ machine.old) }
     ensures fails { F.is_failed file.new ≡ met_fault result }
     ensures device { IfErr result (λ unserved. (unserved.fault ≡ NodeFault.Device)
@@ -114,7 +116,8 @@ where
     ensures any_moment { F.Throughout (LeadsTo M.replay (M.fresh machine.old) (λ x. (x ≡ machine.old)
         ⊎ (x ≡ after_all M.after machine.old asks.now))) file.old file.new }
 {
-    match make_room(file, machine, alloc) {
+    M::leads_back();
+    match make_room(file, machine, alloc, spare) {
         Ok(()) => {}
         Err(fault) => {
             return Err(Unserved {
@@ -130,6 +133,17 @@ where
             is_in_flight: true,
         }),
     }
+}
+
+/// Of the bytes that each of these asks leaves free, the most.
+pub(super) fn spare_of<M: Compact>(asks: &[M::Ask]) -> usize
+    ensures { result ≡ spare_all M.spare asks.now }
+{
+    let mut most = 0;
+    for ask in asks {
+        most = most.max(M::spare(ask));
+    }
+    most
 }
 
 /// Takes asks one after another, and puts their records into a file as one group. If they lack room the file lets go.
@@ -151,6 +165,7 @@ where
     ensures replays { replayed M.replay (Some (M.fresh machine.new)) (F.records file.new) ≡ Some machine.new }
     ensures sound { M.IsSound machine.new }
     ensures kept { OnOk result (F.Throughout (λ rs. rs ≡ F.records file.new) file.new file.new) }
+    ensures spare { OnOk result (written_all M.after M.written machine.old asks.now ≢ [] → HasSpare F.room F.used file.new spare) }
     ensures still { written_all M.after M.written machine.old asks.now ≡ [] → file.new ≡ file.old }
     ensures err { OnErr result (machine.new ≡ machine.old) }
     ensures fails { F.is_failed file.new ≡ met_fault result }

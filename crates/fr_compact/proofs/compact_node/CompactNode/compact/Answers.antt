@@ -10,7 +10,7 @@ invariant_of-self g c =
     let works = sym c.is_failed.ensures.value ∙ c.if-is_failed.false in
     let m = c.self.inside.machine in
     let spelled = g.M.Compact.spelled m in
-    let leads_back : replayed g.M.Recorded.replay (Some (g.M.Recorded.fresh m)) spelled ≡ Some m = g.met.M.Compact.leads_back m c.self.invariant.sound in
+    let leads_back : replayed g.M.Recorded.replay (Some (g.M.Recorded.fresh m)) spelled ≡ Some m = c.leads_back.ensures m c.self.invariant.sound in
     let replays : replayed g.M.Recorded.replay (Some (g.M.Recorded.fresh m)) (g.F.GroupFile.records c.let_go.new.file) ≡ Some m = elim (ok_or_err c.let_go.result _ _ c.let_go.ensures.ok c.let_go.ensures.err) [
       | inl e ↦ ap (λ l. replayed g.M.Recorded.replay (Some (g.M.Recorded.fresh m)) l) e ∙ leads_back
       | inr e ↦ ap (λ l. replayed g.M.Recorded.replay (Some (g.M.Recorded.fresh m)) l) e ∙ c.self.invariant.replays
@@ -26,7 +26,7 @@ returns-clause-any_moment g c works_then =
     let works = sym c.is_failed.ensures.value ∙ c.if-is_failed.false in
     let m = c.self.inside.machine in
     let spelled = g.M.Compact.spelled m in
-    let leads_back : replayed g.M.Recorded.replay (Some (g.M.Recorded.fresh m)) spelled ≡ Some m = g.met.M.Compact.leads_back m c.self.invariant.sound in
+    let leads_back : replayed g.M.Recorded.replay (Some (g.M.Recorded.fresh m)) spelled ≡ Some m = c.leads_back.ensures m c.self.invariant.sound in
     subst (λ n. g.F.GroupFile.Throughout (LeadsTo g.M.Recorded.replay (g.M.Recorded.fresh n.machine) (λ x. x ≡ n.machine)) n.file c.let_go.new.file) c.self.view_is
     (moved_leads g.F.GroupFile.records g.F.GroupFile.owed g.F.GroupFile.Throughout g.F.GroupFile.weaker g.M.Recorded.replay (g.M.Recorded.fresh m) m m (λ x. x ≡ m) c.self.inside.file c.let_go.new.file spelled c.self.invariant.replays refl leads_back refl (c.let_go.ensures.any_moment works))
 
@@ -35,7 +35,7 @@ returns-clause-kept g c =
     let works = sym c.is_failed.ensures.value ∙ c.if-is_failed.false in
     let m = c.self.inside.machine in
     let spelled = g.M.Compact.spelled m in
-    let leads_back : replayed g.M.Recorded.replay (Some (g.M.Recorded.fresh m)) spelled ≡ Some m = g.met.M.Compact.leads_back m c.self.invariant.sound in
+    let leads_back : replayed g.M.Recorded.replay (Some (g.M.Recorded.fresh m)) spelled ≡ Some m = c.leads_back.ensures m c.self.invariant.sound in
     let replays : replayed g.M.Recorded.replay (Some (g.M.Recorded.fresh m)) (g.F.GroupFile.records c.let_go.new.file) ≡ Some m = elim (ok_or_err c.let_go.result _ _ c.let_go.ensures.ok c.let_go.ensures.err) [
       | inl e ↦ ap (λ l. replayed g.M.Recorded.replay (Some (g.M.Recorded.fresh m)) l) e ∙ leads_back
       | inr e ↦ ap (λ l. replayed g.M.Recorded.replay (Some (g.M.Recorded.fresh m)) l) e ∙ c.self.invariant.replays

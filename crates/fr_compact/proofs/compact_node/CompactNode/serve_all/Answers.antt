@@ -22,17 +22,17 @@ returns-then-is_empty-clause-kept g c =
 pub returns-in-Ok-clause-any_moment : goal.returns-in-Ok-clause-any_moment
 returns-in-Ok-clause-any_moment g c works =
     subst (λ n. g.F.GroupFile.Throughout (LeadsTo g.M.Recorded.replay (g.M.Recorded.fresh n.machine) (λ x. (x ≡ n.machine) ⊎ (x ≡ after_all g.M.Machine.after n.machine c.args.asks.items))) n.file c.serve_group.new.file) c.self.view_is
-    (subst (λ l. g.F.GroupFile.Throughout (LeadsTo g.M.Recorded.replay (g.M.Recorded.fresh c.self.inside.machine) (λ x. (x ≡ c.self.inside.machine) ⊎ (x ≡ after_all g.M.Machine.after c.self.inside.machine l))) c.self.inside.file c.serve_group.new.file) c.as_slice.ensures.value c.serve_group.ensures.any_moment)
+    (subst (λ l. g.F.GroupFile.Throughout (LeadsTo g.M.Recorded.replay (g.M.Recorded.fresh c.self.inside.machine) (λ x. (x ≡ c.self.inside.machine) ⊎ (x ≡ after_all g.M.Machine.after c.self.inside.machine l))) c.self.inside.file c.serve_group.new.file) c.as_slice-2.ensures.value c.serve_group.ensures.any_moment)
 
 pub returns-in-Err-Device-clause-any_moment : goal.returns-in-Err-Device-clause-any_moment
 returns-in-Err-Device-clause-any_moment g c works =
     subst (λ n. g.F.GroupFile.Throughout (LeadsTo g.M.Recorded.replay (g.M.Recorded.fresh n.machine) (λ x. (x ≡ n.machine) ⊎ (x ≡ after_all g.M.Machine.after n.machine c.args.asks.items))) n.file c.serve_group.new.file) c.self.view_is
-    (subst (λ l. g.F.GroupFile.Throughout (LeadsTo g.M.Recorded.replay (g.M.Recorded.fresh c.self.inside.machine) (λ x. (x ≡ c.self.inside.machine) ⊎ (x ≡ after_all g.M.Machine.after c.self.inside.machine l))) c.self.inside.file c.serve_group.new.file) c.as_slice.ensures.value c.serve_group.ensures.any_moment)
+    (subst (λ l. g.F.GroupFile.Throughout (LeadsTo g.M.Recorded.replay (g.M.Recorded.fresh c.self.inside.machine) (λ x. (x ≡ c.self.inside.machine) ⊎ (x ≡ after_all g.M.Machine.after c.self.inside.machine l))) c.self.inside.file c.serve_group.new.file) c.as_slice-2.ensures.value c.serve_group.ensures.any_moment)
 
 pub returns-in-Err-clause-any_moment : goal.returns-in-Err-clause-any_moment
 returns-in-Err-clause-any_moment g c works =
     subst (λ n. g.F.GroupFile.Throughout (LeadsTo g.M.Recorded.replay (g.M.Recorded.fresh n.machine) (λ x. (x ≡ n.machine) ⊎ (x ≡ after_all g.M.Machine.after n.machine c.args.asks.items))) n.file c.serve_group.new.file) c.self.view_is
-    (subst (λ l. g.F.GroupFile.Throughout (LeadsTo g.M.Recorded.replay (g.M.Recorded.fresh c.self.inside.machine) (λ x. (x ≡ c.self.inside.machine) ⊎ (x ≡ after_all g.M.Machine.after c.self.inside.machine l))) c.self.inside.file c.serve_group.new.file) c.as_slice.ensures.value c.serve_group.ensures.any_moment)
+    (subst (λ l. g.F.GroupFile.Throughout (LeadsTo g.M.Recorded.replay (g.M.Recorded.fresh c.self.inside.machine) (λ x. (x ≡ c.self.inside.machine) ⊎ (x ≡ after_all g.M.Machine.after c.self.inside.machine l))) c.self.inside.file c.serve_group.new.file) c.as_slice-2.ensures.value c.serve_group.ensures.any_moment)
 
 pub returns-in-Ok-clause-kept : goal.returns-in-Ok-clause-kept
 returns-in-Ok-clause-kept g c =
@@ -49,9 +49,9 @@ invariant_of-self-in-Err-Device g c =
     let device : unserved.fault ≡ node.Device = search rules in
     let fails : g.F.GroupFile.is_failed file ≡ true = c.serve_group.ensures.fails ∙ ap met_fault c.in-Err-Device.is ∙ ap is_device device in
     let same : n ≡ m = c.in-Err-Device.ensures.err in
-    let leads_back : replayed g.M.Recorded.replay (Some (g.M.Recorded.fresh n)) spelled ≡ Some n = subst (λ x. replayed g.M.Recorded.replay (Some (g.M.Recorded.fresh x)) spelled ≡ Some x) (sym same) (g.met.M.Compact.leads_back m c.self.invariant.sound) in
+    let leads_back : replayed g.M.Recorded.replay (Some (g.M.Recorded.fresh n)) spelled ≡ Some n = subst (λ x. replayed g.M.Recorded.replay (Some (g.M.Recorded.fresh x)) spelled ≡ Some x) (sym same) (c.leads_back.ensures m c.self.invariant.sound) in
     failed_node g.F.GroupFile.records g.F.GroupFile.is_failed g.F.GroupFile.owed g.F.GroupFile.Throughout g.M.Recorded.fresh g.M.Recorded.replay (written_held g.M.Machine.after g.M.Recorded.written) (AreAsks g.M.Recorded.IsAsk) g.M.Recorded.IsSound is_in_flight (record { asks = c.args.asks; is_in_flight = unserved.is_in_flight }) file n
-    (subst (λ l. All g.M.Recorded.IsAsk l) c.as_slice.ensures.value (c.in-Err-Device.ensures.asked device)) fails c.serve_group.ensures.replays c.serve_group.ensures.sound c.serve_group.ensures.leaves
+    (subst (λ l. All g.M.Recorded.IsAsk l) c.as_slice-2.ensures.value (c.in-Err-Device.ensures.asked device)) fails c.serve_group.ensures.replays c.serve_group.ensures.sound c.serve_group.ensures.leaves
     (λ rests rs owes. let owed = c.in-Err-Device.ensures.resting device rests in let is : rs ≡ spelled = cc (owes, owed) in ap (λ l. replayed g.M.Recorded.replay (Some (g.M.Recorded.fresh n)) l) is ∙ leads_back)
-    (λ flies rs owes. let owed = c.in-Err-Device.ensures.flying device flies in let is : rs ≡ records ++ written_all g.M.Machine.after g.M.Recorded.written m c.as_slice.result.now = cc (owes, owed) in
-    is ∙ ap (λ x. records ++ written_all g.M.Machine.after g.M.Recorded.written x c.as_slice.result.now) (sym same) ∙ ap (λ l. records ++ written_all g.M.Machine.after g.M.Recorded.written n l) c.as_slice.ensures.value)
+    (λ flies rs owes. let owed = c.in-Err-Device.ensures.flying device flies in let is : rs ≡ records ++ written_all g.M.Machine.after g.M.Recorded.written m c.as_slice-2.result.now = cc (owes, owed) in
+    is ∙ ap (λ x. records ++ written_all g.M.Machine.after g.M.Recorded.written x c.as_slice-2.result.now) (sym same) ∙ ap (λ l. records ++ written_all g.M.Machine.after g.M.Recorded.written n l) c.as_slice-2.ensures.value)

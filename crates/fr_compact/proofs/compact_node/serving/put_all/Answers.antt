@@ -1,10 +1,11 @@
-use Rattle.std.proofs.Common.{◌≡◌, ◌⊎◌, inl, inr, refl, Some, Err, ◌++◌, sym, ap, ◌∙◌, subst}
+use Rattle.std.proofs.Common.{◌≡◌, ◌⊎◌, inl, inr, refl, Some, Err, [], ◌++◌, sym, ap, ◌∙◌, subst}
 use Rattle.fr_record.specs.declared.fault.RecordFault.TheVariants as record_fault
 use Rattle.fr_segment.specs.Group.{records_of}
+use Rattle.fr_segment.specs.Room.{group_size}
 use Rattle.fr_record_node.specs.Several.{after_all, written_all}
 use Rattle.fr_record_node.specs.Replay.{replayed}
 use Rattle.fr_compact.proofs.AskLemmas.{all_sound, all_replay, all_fresh}
-use Rattle.fr_compact.proofs.NodeLemmas.{replays_more, no_group, kept_leads, moved_leads, left_kept, left_refused}
+use Rattle.fr_compact.proofs.NodeLemmas.{has_spare, replays_more, no_group, kept_leads, moved_leads, left_kept, left_refused}
 use Rattle.fr_compact.proofs.compact_node.serving.put_all.Goals as goal
 
 pub returns-in_default-clause-any_moment : goal.returns-in_default-clause-any_moment
@@ -42,6 +43,14 @@ returns-in-Ok-append_group-clause-sound g c =
     let within = c.in-Ok-take_all.ensures.asked in
     let moved : c.settle.new.self ≡ after_all g.M.Machine.after m asks = c.settle.ensures ∙ ap g.M.Recorded.settled c.in-Ok-take_all.ensures.after ∙ g.met.M.Recorded.settles m asks c.requires.sound within in
     subst g.M.Recorded.IsSound (sym moved) (all_sound g.M.Machine.after g.M.Recorded.IsSound g.M.Recorded.IsAsk g.met.M.Recorded.stays_sound m asks c.requires.sound within)
+
+pub returns-in-Ok-append_group-clause-spare : goal.returns-in-Ok-append_group-clause-spare
+returns-in-Ok-append_group-clause-spare g c changes =
+    let group = written_all g.M.Machine.after g.M.Recorded.written c.args.machine.now c.args.asks.now in
+    let is : records_of c.as_slice.result.now ≡ group = ap records_of c.as_slice.ensures.value ∙ c.in-Ok-take_all.ensures.records in
+    let some : c.as_slice.result.now ≡ [] → ⊥ = λ e. changes (sym is ∙ ap records_of e) in
+    has_spare (g.F.GroupFile.room c.args.file.now) (g.F.GroupFile.used c.args.file.now) (group_size (records_of c.as_slice.result.now)) c.args.spare (g.F.GroupFile.room c.append_group.new.self) (g.F.GroupFile.used c.append_group.new.self) c.append_group.ensures.sizes.0 c.in-Ok-append_group.ensures.used
+    (λ less. let full = c.append_group.ensures.full.1 (c.requires.works, some, less) in let ok = c.in-Ok-append_group.is in absurd (cc (full, ok)))
 
 pub returns-in-Ok-append_group-clause-still : goal.returns-in-Ok-append_group-clause-still
 returns-in-Ok-append_group-clause-still g c none =

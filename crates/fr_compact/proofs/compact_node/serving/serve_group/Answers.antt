@@ -1,9 +1,9 @@
-use Rattle.std.proofs.Common.{◌≡◌, ◌⊎◌, ◌+◌, ◌-◌, ◌^◌, ◌++◌, min, true, false, Err, Some, IfOk, OnOk, OnErr, ap, ◌∙◌, subst}
+use Rattle.std.proofs.Common.{◌≡◌, ◌⊎◌, ◌+◌, ◌-◌, ◌^◌, ◌++◌, min, true, false, Err, Some, IfOk, OnOk, OnErr, [], ap, ◌∙◌, subst}
 use Rattle.std.specs.Prelude.{IfErr, All}
 use Rattle.fr_base.specs.declared.node.NodeFault.TheVariants as node
 use Rattle.fr_record_node.specs.Several.{after_all, told_all, written_all}
 use Rattle.fr_compact.specs.Leading.{LeadsTo}
-use Rattle.fr_compact.specs.Room.{IsNoHelp}
+use Rattle.fr_compact.specs.Room.{IsNoHelp, HasSpare}
 use Rattle.fr_compact.proofs.NodeLemmas.{on_if_err, at_err}
 use Rattle.fr_compact.proofs.compact_node.serving.serve_group.Goals as goal
 
@@ -20,6 +20,12 @@ returns-in-Err-Full-clause-after g c =
     let same_file : c.put_all.new.file ≡ c.args.file.now = c.put_all.ensures.untouched full in
     let same_machine : c.put_all.new.machine ≡ c.args.machine.now = c.in-Err-Full.ensures.err in
     subst (λ m. OnOk c.put_behind_state.result (c.put_behind_state.new.machine ≡ after_all g.M.Machine.after m c.args.asks.now)) same_machine c.put_behind_state.ensures.after
+
+pub returns-in-Err-Full-clause-spare : goal.returns-in-Err-Full-clause-spare
+returns-in-Err-Full-clause-spare g c =
+    let full = c.in-Err-Full.is ∙ ap (λ f. Err f) c.in-Err-Full.field-0-is in
+    let same_machine : c.put_all.new.machine ≡ c.args.machine.now = c.in-Err-Full.ensures.err in
+    subst (λ m. OnOk c.put_behind_state.result ((written_all g.M.Machine.after g.M.Recorded.written m c.args.asks.now ≡ [] → ⊥) → HasSpare g.F.GroupFile.room g.F.GroupFile.used c.put_behind_state.new.file c.args.spare)) same_machine c.put_behind_state.ensures.spare
 
 pub returns-in-Err-Full-clause-err : goal.returns-in-Err-Full-clause-err
 returns-in-Err-Full-clause-err g c =
