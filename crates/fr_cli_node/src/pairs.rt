@@ -226,7 +226,10 @@ fn unopened_pair(fault: OpenFault) -> NodeEnd {
 
 /// Sees that both files are there, before opening makes those that are not.
 fn are_there(host: &HostRuntime, names: &Names) -> Result<(), NodeEnd> {
-    match (is_there(host, &names.first)?, is_there(host, &names.second)?) {
+    match (
+        is_there(host, &names.first)?,
+        is_there(host, &names.second)?,
+    ) {
         (true, true) => Ok(()),
         (false, false) => Err(NodeEnd::Unmade),
         _ => Err(NodeEnd::Missing),

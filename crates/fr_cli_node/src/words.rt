@@ -124,10 +124,7 @@ fn read_cluster(name: &str) -> Option<[u8; 16]> {
 }
 
 /// The home of a cell or a log, if it has a folder; None if the words about its files do not go together.
-fn read_home(
-    alloc: Global,
-    matches: &ArgMatches<'_>,
-) -> Result<Option<Option<Home>>, AllocError> {
+fn read_home(alloc: Global, matches: &ArgMatches<'_>) -> Result<Option<Option<Home>>, AllocError> {
     let room = matches.get_one::<u64>("room").unwrap_or(0);
     let cluster = read_cluster(matches.get_str("cluster").unwrap_or(""));
     match (read_folder(alloc, matches)?, read_opening(matches), cluster) {
