@@ -2,9 +2,7 @@ package agent
 
 import (
 	"encoding/json"
-	"errors"
 	"fmt"
-	"strings"
 	"time"
 
 	"fdbrec/service/internal/journal"
@@ -63,12 +61,21 @@ func (n *node) takeNext() (group []*item, hold <-chan time.Time) {
 }
 
 func (n *node) whyEnded() error {
-	text := n.process.Status()
-	if said := strings.TrimSpace(process.Said(n.agent.said(n.name))); said != "" {
-		lines := strings.Split(said, "\n")
-		text += ": " + lines[len(lines)-1]
+	return &ended{n.process.Status(), n.process.Code(), n.process.Said()}
+}
+
+// ended is how a process ended: by its status, and with what on standard error.
+type ended struct {
+	how  string
+	code int
+	said string
+}
+
+func (e *ended) Error() string {
+	if e.said == "" {
+		return e.how
 	}
-	return errors.New(text)
+	return e.how + ": " + e.said
 }
 
 // line spells a line.

@@ -23,6 +23,7 @@ func TestMain(m *testing.M) {
 	if os.Getenv("IS_A_LOG") == "" {
 		os.Exit(m.Run())
 	}
+	openFile()
 	for lines := bufio.NewScanner(os.Stdin); lines.Scan(); {
 		var line struct {
 			Body struct {

@@ -59,7 +59,7 @@ func TestFirstNodes(t *testing.T) {
 func TestMostAhead(t *testing.T) {
 	a := &Agent{config: &config.Config{Node: []string{"fdbrec", "node"}}}
 	order := wire.Order{Node: names.Node{Kind: "sequencer", First: 257}, Last: 1}
-	its, err := a.words(order)
+	its, err := a.words(order, false)
 	wanted := "fdbrec node sequencer --epoch 257 --last 1 --most-ahead 1099511627776"
 	if found := strings.Join(its, " "); err != nil || found != wanted {
 		t.Errorf("%s and not %s: %v", found, wanted, err)
