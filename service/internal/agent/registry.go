@@ -244,7 +244,7 @@ func (a *Agent) words(order wire.Order, makes bool) ([]string, error) {
 		its = append(its, "--make")
 	}
 	if kind := order.Node.Kind; kind == "cell" || kind == "log" {
-		its = append(its, "--room", fmt.Sprint(a.config.FileRoom))
+		its = append(its, "--room", fmt.Sprint(a.config.FileRoom), "--cluster", a.config.FileCluster())
 	}
 	if kind := order.Node.Kind; kind == "log" || kind == "sequencer" {
 		return its, nil

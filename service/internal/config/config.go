@@ -3,6 +3,8 @@
 package config
 
 import (
+	"crypto/sha256"
+	"encoding/hex"
 	"os"
 	"time"
 )
@@ -167,6 +169,16 @@ func (c *Config) Program(kind string) []string {
 		return words
 	}
 	return c.Node
+}
+
+// FileCluster is the cluster's name as the files of cells and logs have it. They have 16 bytes for it: of a longer one they
+// have a part of its hash.
+func (c *Config) FileCluster() string {
+	if len(c.Cluster) <= 16 {
+		return c.Cluster
+	}
+	its := sha256.Sum256([]byte(c.Cluster))
+	return hex.EncodeToString(its[:8])
 }
 
 // BatchBytes is how many bytes the JSON of one batch may have. An answer to a peek has up to 100 batches, and is one

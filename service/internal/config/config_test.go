@@ -118,6 +118,16 @@ func TestRefusals(t *testing.T) {
 	}
 }
 
+// A name of 16 bytes is in files as it is; of a longer one they have a hash, which another one does not have.
+func TestFileCluster(t *testing.T) {
+	for name, wanted := range map[string]string{"five": "five", "a-name-of-sixtee": "a-name-of-sixtee",
+		"a-name-of-sixteen": "62b70e1bc6929cad", "a-name-of-sixteem": "47ab7ff1a196dfe0"} {
+		if its := (&Config{Cluster: name}).FileCluster(); its != wanted || len(its) > 16 {
+			t.Errorf("%s: %s and not %s", name, its, wanted)
+		}
+	}
+}
+
 // However a file is cut off it is read or refused, and nothing panics.
 func TestCut(t *testing.T) {
 	for at := range good {
