@@ -274,7 +274,7 @@ func (n *node) takeAll(group []*item, found []*answer) error {
 
 // took does what an answer brings about: tells and asks leave, and whoever waits is told.
 func (n *node) took(it *item, its *answer) {
-	n.heed(its)
+	n.heed(it, its)
 	for _, text := range its.Entries {
 		var entry act
 		if !entry.read(text) {
@@ -318,13 +318,14 @@ func (n *node) heard(entry *act) {
 	}
 }
 
-// heed keeps where the node stands.
-func (n *node) heed(its *answer) {
+// heed keeps where the node stands. A log is full from a push that has no room in its file until it takes another one: its
+// storage servers may pop meanwhile. It keeps some room for locks and pops, so that it says nothing if one of these has none.
+func (n *node) heed(it *item, its *answer) {
 	n.mutex.Lock()
 	defer n.mutex.Unlock()
 	if its.Type == "error" {
 		n.errors++
-		n.full = n.full || its.Text == "Full"
+		n.full = n.full || it.sort == "push" && its.Text == "Full"
 		n.agent.bus.Counts.Add("lines refused", 1)
 		return
 	}
@@ -334,6 +335,9 @@ func (n *node) heed(its *answer) {
 	}
 	var stands where
 	if json.Unmarshal(last, &stands) == nil {
+		if was, now := n.where.Log, stands.Log; was != nil && now != nil && now.Durable > was.Durable {
+			n.full = false
+		}
 		n.where = stands
 	}
 	n.last = last
