@@ -207,11 +207,7 @@ def filling(checks, room):
             print("files that let go are not tried: nodes in Python have none", flush=True)
         standing_still(checks, cluster)
         # (a state names generations until the next recovery, which drops those that all storage servers popped)
-        ends = time.monotonic() + 60
-        while not is_caught_up(cluster.standing()) and time.monotonic() < ends:
-            time.sleep(0.5)
-        checks.check(is_caught_up(cluster.standing()), "storage servers are where the logs are:", cluster.standing())
-        time.sleep(2)
+        all_pop(checks, cluster)
         ran = cluster.run("recover")
         checks.check(ran.returncode == 0 and cluster.comes(60) is not None, "recover:", ran.stdout, ran.stderr)
         ends = time.monotonic() + 60
@@ -232,7 +228,7 @@ def letting_go(checks, cluster):
     for _ in range(12):
         ran = cluster.run("bench", "--commits", "8", *PUTS, "--acks", f"{cluster.room}/acks", timeout=200)
         checks.check("commits 8 failed map[]" in ran.stdout, "a part:", ran.stdout, ran.stderr)
-        time.sleep(1.5)  # (each log of a shard is popped meanwhile)
+        all_pop(checks, cluster)
     epoch, why = cluster.standing()["newest"]["epoch"], begun(cluster)
     checks.check(epoch == 257 and not why, "the first epoch goes on:", epoch, why)
     files = [f"{cluster.room}/m1/files/log-257-1.{at}" for at in (0, 1)]
@@ -258,12 +254,23 @@ def standing_still(checks, cluster):
     checks.check(max(sizes) <= 2 * ROOM, "files of logs:", sizes)
 
 
-def is_caught_up(its):
-    """Whether each storage server knows of all that was committed before the newest epoch."""
-    nodes = [node for each in its["machines"].values() for name, node in each["nodes"].items() if "storage-" in name]
-    stands = [node["last"]["storage"] for node in nodes if node.get("last")]
-    newest = its["newest"]
-    return len(stands) == 2 and all(it["epoch"] == newest["epoch"] and it["floor"] >= newest["rv"] for it in stands)
+def all_pop(checks, cluster):
+    """Waits until each storage server knows of all that was committed but the last batch or two, and has each log of
+    its shard let go of it."""
+    ends, stands = time.monotonic() + 90, []
+    while not is_caught_up(stands) and time.monotonic() < ends:
+        time.sleep(0.3)
+        its = cluster.standing()["machines"].values()
+        stands = [node["last"] for each in its for node in each["nodes"].values() if node.get("last")]
+    checks.check(is_caught_up(stands), "storage servers are where the logs are:", stands)
+    time.sleep(1.5)
+
+
+def is_caught_up(stands):
+    """Whether nodes stand so."""
+    floors = [it["storage"]["floor"] for it in stands if "storage" in it]
+    durable = max((it["log"]["durable"] for it in stands if "log" in it), default=0)
+    return len(floors) == 2 and min(floors) >= durable - 2
 
 
 def begun(cluster):
@@ -506,13 +513,12 @@ def note(room, token, state):
 def lost_file(checks, cluster):
     """A node whose files are missing, damaged or another's is not started as a new one, and the agent says why. Once
     the files are back it goes on."""
-    folder = f"{cluster.room}/m1/files"
+    folder, others = f"{cluster.room}/m1/files", f"{cluster.room}/m0/files/cell-0.0"
     cases = [("its files are missing", lambda: [os.remove(it) for it in paths_of(folder, "cell-1")])]
     if served.is_built():
         cases += [
             ("one of this node's two files is missing", lambda: os.remove(f"{folder}/cell-1.1")),
-            ("a file is another node's", lambda: [shutil.copy(f"{cluster.room}/m0/files/cell-0.{at}", f"{folder}/cell-1.{at}")
-                                                  for at in (0, 1)]),
+            ("a file is another node's", lambda: shutil.copy(others, f"{folder}/cell-1.0")),
             ("a file is damaged", lambda: changed(f"{folder}/cell-1.0")),
             ("no files of this node", lambda: [open(it, "wb").close() for it in paths_of(folder, "cell-1")]),
         ]
