@@ -186,8 +186,8 @@ def full_for_good(checks, room):
         cluster.drop()
 
 
-ROOM = 131072  # bytes that each file of a cell or a log may have where files fill
-PUTS = ("--bytes", "4000", "--clients", "4")
+ROOM = 65536  # bytes that each file of a cell or a log may have where files fill
+PUTS = ("--bytes", "2000", "--clients", "4")
 
 
 def filling(checks, room):
@@ -242,7 +242,7 @@ def standing_still(checks, cluster):
     checks.check(len(its) == 1, "storage server 0 runs:", cluster.node_pids())
     os.kill(its[0], signal.SIGSTOP)
     try:
-        ran = cluster.run("bench", "--commits", "80", *PUTS, "--acks", f"{cluster.room}/acks", timeout=250)
+        ran = cluster.run("bench", "--commits", "60", *PUTS, "--acks", f"{cluster.room}/acks", timeout=250)
     finally:
         os.kill(its[0], signal.SIGCONT)
     checks.check(ran.returncode == 0, "commits beside it:", ran.stdout, ran.stderr)
@@ -257,7 +257,7 @@ def standing_still(checks, cluster):
 def all_pop(checks, cluster):
     """Waits until each storage server knows of all that was committed but the last batch or two, and has each log of
     its shard let go of it."""
-    ends, stands = time.monotonic() + 90, []
+    ends, stands = time.monotonic() + 150, []
     while not is_caught_up(stands) and time.monotonic() < ends:
         time.sleep(0.3)
         its = cluster.standing()["machines"].values()
