@@ -1,5 +1,5 @@
 -- Two devices opened as a pair, call by call.
-use Rattle.std.proofs.Common.{◌≡◌, ◌⊎◌, inl, inr, ℕ, ◌+◌, ◌-◌, min, ◌<◌, ◌^◌, List, [], ◌∷◌, ◌++◌, Some, refl, sym, ap, ◌∙◌, subst, arith}
+use Rattle.std.proofs.Common.{◌≡◌, ◌⊎◌, inl, inr, ℕ, ◌+◌, ◌-◌, min, ◌<◌, ◌^◌, List, [], Some, sym, ap, ◌∙◌, subst, arith}
 use Rattle.fr_record.specs.Disk.{Disk, MayLeave, IsDurable}
 use Rattle.fr_record.specs.Failing.{FailsOnceMore}
 use Rattle.fr_record.specs.Moments.{LeavesOnly, Throughout}
@@ -8,7 +8,7 @@ use Rattle.fr_segment.specs.declared.health.Health.TheVariants.{Works, Failed, A
 use Rattle.fr_segment.specs.File.{Group, IsLeft}
 use Rattle.fr_segment.specs.Health.{group_of, owed_by, IsFit, IsCurrentLeft, IsOtherLeft}
 use Rattle.fr_segment.specs.Opening.{IsOpening}
-use Rattle.fr_segment.specs.Pair.{LeavesBoth, PairThroughout}
+use Rattle.fr_segment.specs.Pair.{PairThroughout}
 use Rattle.fr_segment.specs.PairLaws.{weaker_both, at_end, chained}
 use Rattle.fr_segment.specs.PairOpening.{AreLeft, IsPairOpening}
 use Rattle.fr_segment.specs.Turns.{IsHeaded, own_records, BeginsWith, IsOlder}

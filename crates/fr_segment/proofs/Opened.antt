@@ -1,5 +1,5 @@
 -- A pair that was just opened or made, and devices that hold none.
-use Rattle.std.proofs.Common.{◌≡◌, ◌⊎◌, inl, inr, ℕ, ◌+◌, ◌<◌, ◌≤◌, ◌^◌, false, List, [], ◌∷◌, ◌++◌, length, get_or, drop, refl, sym, ap, ◌∙◌, subst, arith}
+use Rattle.std.proofs.Common.{◌≡◌, ◌⊎◌, inl, inr, ℕ, ◌+◌, ◌<◌, ◌^◌, false, List, [], ◌∷◌, length, get_or, drop, refl, sym, ap, ◌∙◌, subst, arith}
 use Rattle.fr_record.specs.Disk.{Disk, MayLeave, IsDurable, written}
 use Rattle.std.specs.Prelude.{Result, Ok, Err, IfOk, OnErr}
 use Rattle.fr_segment.specs.declared.first.First.{First}
@@ -14,7 +14,7 @@ use Rattle.fr_segment.specs.First.{IsBelow, IsTurn}
 use Rattle.fr_segment.specs.Header.{header}
 use Rattle.fr_segment.specs.Health.{AreInTurn}
 use Rattle.fr_segment.specs.State.{SegmentFile}
-use Rattle.fr_segment.specs.Turns.{IsHeaded, own_records, led_by, BeginsWith, HoldsNothing, IsOlder, AreTurns, PairStandsFor, IsForeign}
+use Rattle.fr_segment.specs.Turns.{IsHeaded, led_by, BeginsWith, HoldsNothing, IsOlder, AreTurns, PairStandsFor, IsForeign}
 use Rattle.fr_segment.proofs.Crash.{durable_leaves}
 use Rattle.fr_segment.proofs.FileLemmas.{block_once}
 use Rattle.fr_segment.proofs.FirstLemmas.{first_is, first_closed, below_older}

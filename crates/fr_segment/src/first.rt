@@ -48,6 +48,8 @@ fn first_in(bytes: &[u8], identity: &[u8]) -> Result<First, OpenFault>
     ensures never_device { result ≢ Err OpenFault.Device }
     ensures never_memory { result ≢ Err OpenFault.Memory }
 {
+    // Nothing was ever made here, or the bytes were lost. Which of these it is the other device says, so it is no fault
+    // yet (invariant 15).
     if bytes.len() < 2 {
         return Ok(First::Missing);
     }

@@ -25,6 +25,19 @@
 //! 9. `Full` and `Memory` come before the first byte is written, and change nothing (the clauses `full` and `err`).
 //! 10. The table has the place of each record, `end` is the place of the closed gate, and `count` how many groups there are
 //!     (`IsFile`). So a look-up is one read, and no call walks the file.
+//! 11. Of two files the one with the greater number is current. Of the other one only the first gate and the first block
+//!     count: while its gate is being closed, a crash may leave any two bytes there, with all its groups behind it. So
+//!     opening never reads the other file as one (`IsOlder`).
+//! 12. A file begins with one header at most, and a pair of one number twice is damage. So both devices stand for one list
+//!     of records at most (`PairStandsFor`; `pair_law`).
+//! 13. `replace` closes the other file's gate before it writes behind it, and syncs. In any other order a crash could leave
+//!     an open gate before a part of a group. A gate that is closed is not written again, since a crash could tear that.
+//! 14. The device that was current stays as it is until the next `replace`. Only then is the older file given up, and the
+//!     newer one is whole on the disk by then.
+//! 15. A device that neither holds nothing nor begins with a whole first block with a header is damage. So one changed byte
+//!     of the newer file never brings back the older one in silence.
+//! 16. After a fault the pair has failed until it is opened again. `health` says what was in flight: whatever a crash leaves
+//!     stands for the records before the call, or for those it was to lead to (`AreInTurn`).
 #![tactic(auto)]
 
 mod crc;

@@ -43,7 +43,7 @@ impl<D: Device> GroupFile for Segments<D> {
     ghost ends = { λ P f g way. way_ends D.Led D.disk P f g way };
 
     fn len(&self) -> usize {
-        // The header is the first record of the file.
+        // The header is the first record of the file. It is none of the caller's, so it does not count.
         self.current.len() - 1
     }
 
@@ -64,6 +64,7 @@ impl<D: Device> GroupFile for Segments<D> {
         if self.health.has_failed() {
             return Err(RecordFault::Failed);
         }
+        // Tested here, because the number below is one greater: the header stands before all records.
         if i >= self.current.len() - 1 {
             return Ok(None);
         }
@@ -100,6 +101,8 @@ impl<D: Device> GroupFile for Segments<D> {
         match self.current.put_group(group, &new) {
             Ok(()) => Ok(()),
             Err(RecordFault::Device) => {
+                // What was in flight is kept for the proof alone: a crash may leave a part of it behind the gate, and
+                // opening must tell that from a replacement (invariant 16).
                 self.health = Health::Appending(Snapshot::of(&new));
                 Err(RecordFault::Device)
             }
@@ -114,6 +117,7 @@ impl<D: Device> GroupFile for Segments<D> {
         if self.health.has_failed() {
             return Err(RecordFault::Failed);
         }
+        // Before the other device is called: its file must stay whole until the new one is begun (invariant 14).
         if !self.has_next_room(group) {
             return Err(RecordFault::Full);
         }
@@ -126,6 +130,7 @@ impl<D: Device> GroupFile for Segments<D> {
             .turn(alloc, &mut self.other, &next.header, group, &next.new)
         {
             Ok(()) => {
+                // Only now, since until the group was synced a crash left the file before it (invariant 13).
                 self.number = next.number;
                 Ok(())
             }

@@ -19,7 +19,8 @@ use std::alloc::Global;
 
 impl<D: Device> Segments<D> {
     /// Two files with no records, on two devices that they are the only ones to use. The first is number 1, the second
-    /// holds nothing.
+    /// holds nothing. What the devices held is given up, and until this answers a crash may leave a part of it as a pair:
+    /// so call it where `open` answers `Unmade`.
     pub fn make(alloc: Global, first: D, second: D, identity: Bytes) -> Result<Self, RecordFault>
         ensures records { IfOk result (λ pair. own_records pair.groups ≡ []) }
         ensures works { IfOk result (λ pair. pair.health ≡ Health.Works) }

@@ -127,6 +127,7 @@ impl<D: Device> Segments<D> {
     {
         match self.current.take_over(alloc, &mut self.other) {
             Ok(()) => {
+                // The number that was found, because the next file must have a greater one than both (invariant 11).
                 self.number = number;
                 self.health = Health::Works;
                 Ok(())
