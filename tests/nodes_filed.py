@@ -412,8 +412,8 @@ def full(checks, command):
 
 
 def filled(files, folder, size):
-    """A log that is never popped is pushed to until it refuses. Its last version, and the line that it refused. (What is
-    behind that line has a gap before it.)"""
+    """A log that is never popped is pushed to until it refuses. Its last version, and the line that it refused. (Those
+    behind that line have a gap before them.)"""
     os.mkdir(f"{files.room}/{folder}")
     files.run([*LITTLE, *MAKE], folder, BEGUN)
     given = list(pushes(65536 // size, size))
@@ -490,7 +490,7 @@ def together(checks, command):
         records = [segments.records_of(pair, owner) for pair in pairs]
         checks.check(records[0] == records[1], "given lines at once a log has other records than given them one by one")
         counts = [len(segments.groups_in(pair[0])) for pair in pairs]
-        # (the header, a seed, a mark, 73 pushes, and a pop; a push that has a gap before it and one that is held are none)
+        # (the header, a seed, a mark, 73 pushes, and a pop; a push with a gap before it and one that is held are none)
         checks.check(counts[1] == 77 and counts[0] < 20, "groups of lines given at once, and one by one:", counts)
 
 

@@ -16,8 +16,8 @@ import built
 import lines
 import segments
 from lines_played import Drawn, line_of, words_of
-from nodes_filed import ADOPT, BEGUN, BROKEN, CELL, FILES, INIT, LITTLE, LOG, MAKE, MISSING, NO_ROOM, OLD, STRANGER, THERE
-from nodes_filed import UNMADE, Files, content, lock, name_of, pop, pushes, turned
+from nodes_filed import ADOPT, BEGUN, BROKEN, CELL, FILES, INIT, LITTLE, LOG, MAKE, MISSING, NO_ROOM, OLD, STRANGER
+from nodes_filed import THERE, UNMADE, Files, content, lock, name_of, pop, pushes, turned
 
 FDBREC = "fdbrec"
 CELL_OWNER = segments.owner_of(FDBREC, "cell 0")
@@ -346,7 +346,8 @@ def lets_go(checks, command):
         os.mkdir(f"{room}/files")
         memory, status, text = files.run(LOG, "", given)
         found = files.run([*LITTLE, *MAKE], "files", given)
-        checks.check(found == (memory, 0, "") and (status, text) == (0, ""), "over files it answers otherwise", found[1:])
+        checks.check((status, text) == (0, ""), "in memory it ended with", status, text)
+        checks.check(found == (memory, 0, ""), "over files it answers otherwise", found[1:])
         wanted = shown([memory[-1], *memory[-5:-1]])
         is_same(checks, state(files, LITTLE, "files"), wanted, "opened again it is, and not")
         pair = files.pair("files")
@@ -359,7 +360,8 @@ def lets_go(checks, command):
         found = files.run([*CELL, *MAKE, "--room", "65536"], "files", [
             *(asked | {"ask": lines.write(256 * ballot, value)} for ballot in range(2, 42)), INIT])
         wanted = [{"cell": {"promised": 256 * 41, "value": value, "written": 256 * 41}}]
-        checks.check(found[1:] == (0, "") and shown(found[0][-1:]) == wanted, "a cell that lets go ended with", found[1:])
+        is_so = found[1:] == (0, "") and shown(found[0][-1:]) == wanted
+        checks.check(is_so, "a cell that lets go ended with", found[1:])
         pair = files.pair("files", CELL)
         _, number = segments.current(pair, CELL_OWNER)
         is_so = number > 2 and spelled(CELL, segments.records_of(pair, CELL_OWNER)) == wanted
