@@ -483,9 +483,14 @@ def early(checks, cluster):
         order = {"do": "start", "node": node, "logs": 4, "degree": 2, "last": 9, "known": 7, "at": 1}
         raw.say("fdbrec.dev.agent.m2.keeper-9", json.dumps(order).encode())
     raw.close()
-    is_up = lambda: [name for name in cluster.node_pids() if f"m2 log --epoch {epoch}" in name]
+    path = f"{cluster.room}/m2/nodes/log-{epoch}-0.json"
+
+    def is_up():
+        runs = [name for name in cluster.node_pids() if f"m2 log --epoch {epoch}" in name]
+        return runs and os.path.exists(path) and b'"started"' in content(path)
+
     for turn in range(3):
-        ends = time.monotonic() + 30
+        ends = time.monotonic() + 60
         while not is_up() and time.monotonic() < ends:
             time.sleep(0.2)
         checks.check(is_up(), "the log that was ordered runs, in turn", turn)
@@ -493,21 +498,15 @@ def early(checks, cluster):
         if turn < 2:
             cluster.kill("m2")
             if turn == 1:
-                note(f"{cluster.room}/m2", f"log-{epoch}-0", "starting")
+                shutil.rmtree(f"{cluster.room}/m2/journals/log-{epoch}-0")
+                with open(path, "r+b") as it:
+                    its = it.read().replace(b'"started"', b'"starting"')
+                    it.seek(0)
+                    it.write(its)
             cluster.start("m2")
     taken = cluster.said("m2", "files that were made before a kill are taken")
     checks.check(len(taken) == served.is_built(), "the log was made once, and taken then:", taken)
     checks.check(cluster.comes(60) is not None, "it goes on after two kills of m2:", cluster.last.stderr)
-
-
-def note(room, token, state):
-    """An agent's room as it was when it had noted this of a node, and had no journal of it."""
-    path = f"{room}/nodes/{token}.json"
-    with open(path, encoding="utf-8") as it:
-        its = json.load(it)
-    with open(path, "w", encoding="utf-8") as it:
-        json.dump(its | {"state": state}, it)
-    shutil.rmtree(f"{room}/journals/{token}")
 
 
 def lost_file(checks, cluster):
@@ -529,14 +528,15 @@ def lost_file(checks, cluster):
         spoil()
         spoiled = {it: content(it) for it in paths_of(folder, "cell-1")}
         cluster.start("m1")
-        ends, its = time.monotonic() + 30, {}
-        while wanted not in its.get("why", "") and time.monotonic() < ends:
+        began, its = time.monotonic(), {}
+        while wanted not in its.get("why", "") and time.monotonic() < began + 60:
             time.sleep(0.3)
-            its = cluster.standing()["machines"].get("m1", {}).get("nodes", {}).get("cell-1", {})
+            its = node_of(cluster, "m1", "cell-1")
         time.sleep(1)
-        starts = cluster.standing()["machines"]["m1"]["nodes"]["cell-1"]["starts"]
-        is_so = wanted in its.get("why", "") and its["state"] == "failed" and starts <= 1
-        checks.check(is_so, "cell 1, of whose files", wanted, "is to be said:", its, starts)
+        # (it is tried again each five seconds)
+        starts, most = node_of(cluster, "m1", "cell-1").get("starts", 0), 1 + (time.monotonic() - began) // 5
+        is_so = wanted in its.get("why", "") and its["state"] == "failed" and starts <= most
+        checks.check(is_so, "cell 1, of whose files", wanted, "is to be said:", its, starts, most)
         said_so = [it for it in cluster.said("m1", "cannot be started over its files") if wanted in it]
         checks.check(len(said_so) == 1, "the log of m1 says it once:", said_so)
         checks.check({it: content(it) for it in paths_of(folder, "cell-1")} == spoiled, wanted, "and they were changed")
@@ -546,11 +546,16 @@ def lost_file(checks, cluster):
             with open(path, "wb") as it:
                 it.write(data)
         checks.check(cluster.comes(60) is not None, "it goes on once the files are back:", cluster.last.stderr)
-        ends = time.monotonic() + 30
+        ends = time.monotonic() + 60
         while its.get("state") != "up" and time.monotonic() < ends:
             time.sleep(0.3)
-            its = cluster.standing()["machines"].get("m1", {}).get("nodes", {}).get("cell-1", {})
+            its = node_of(cluster, "m1", "cell-1")
         checks.check(its.get("state") == "up", "cell 1 is up once its files are back:", its)
+
+
+def node_of(cluster, machine, token):
+    """What a machine says of a node, or nothing yet."""
+    return cluster.standing()["machines"].get(machine, {}).get("nodes", {}).get(token, {})
 
 
 def paths_of(folder, token):

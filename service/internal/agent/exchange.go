@@ -318,8 +318,9 @@ func (n *node) heard(entry *act) {
 	}
 }
 
-// heed keeps where the node stands. A log is full from a push that has no room in its file until it takes another one: its
-// storage servers may pop meanwhile. It keeps some room for locks and pops, so that it says nothing if one of these has none.
+// heed keeps where the node stands. A log is full from a push that has no room in its file until it takes another one, since
+// its storage servers may pop meanwhile, or is locked. It keeps some room for locks and pops, so that it says nothing if one
+// of these has none.
 func (n *node) heed(it *item, its *answer) {
 	n.mutex.Lock()
 	defer n.mutex.Unlock()
@@ -335,7 +336,7 @@ func (n *node) heed(it *item, its *answer) {
 	}
 	var stands where
 	if json.Unmarshal(last, &stands) == nil {
-		if was, now := n.where.Log, stands.Log; was != nil && now != nil && now.Durable > was.Durable {
+		if was, now := n.where.Log, stands.Log; was != nil && now != nil && (now.Durable > was.Durable || now.Stopped) {
 			n.full = false
 		}
 		n.where = stands

@@ -61,6 +61,7 @@ func TestFullLog(t *testing.T) {
 	at := func(durable int) *answer {
 		return &answer{Type: "ask_ok", Last: json.RawMessage(fmt.Sprintf(`{"log":{"durable":%d}}`, durable))}
 	}
+	locked := &answer{Type: "ask_ok", Last: json.RawMessage(`{"log":{"durable":8,"stopped":true}}`)}
 	for number, row := range []struct {
 		sort   string
 		its    *answer
@@ -68,6 +69,7 @@ func TestFullLog(t *testing.T) {
 	}{
 		{"", at(7), false}, {"pop", full, false}, {"seed", full, false}, {"push", refused, false}, {"push", full, true},
 		{"pop", at(7), true}, {"push", at(7), true}, {"push", full, true}, {"push", at(8), false}, {"push", full, true},
+		{"lock", locked, false},
 	} {
 		if n.heed(&item{sort: row.sort}, row.its); n.view().Full != row.wanted {
 			t.Errorf("after answer %d, to %s: %v", number, row.sort, !row.wanted)
