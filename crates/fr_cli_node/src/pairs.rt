@@ -1,5 +1,5 @@
 //! The two files of a cell or a log in its home: made, opened, or made from the one file of version 0.2.
-ghost use Rattle.std.specs.Prelude.{◌≡◌, false, IfOk};
+ghost use Rattle.std.specs.Prelude.{◌≡◌, ◌<◌, false, IfOk};
 
 use crate::fault::NodeEnd;
 use crate::words::{Home, Opening};
@@ -11,9 +11,15 @@ use fr_record::{Device, RecordFault, Records};
 use fr_record_log::LogNode;
 use fr_record_node::CellNode;
 use fr_register::Cell;
-use fr_segment::{GroupFile, OpenFault, Segment, Segments, header, identity};
+use fr_segment::{GroupFile, OpenFault, Segment, Segments, group_len, header, identity};
 use std::alloc::{AllocError, Global};
 use std::fs;
+
+/// The longest name of a node that a header has here.
+const LONGEST: usize = 255;
+
+/// The most bytes that a group of records may have: four bytes spell its length.
+const MOST: usize = 4_294_967_295;
 
 /// The names of a node's two files, and the one that its file had in version 0.2.
 #[derive(Drop)]
@@ -34,7 +40,12 @@ fn names_of(alloc: Global, home: &Home, name: &str) -> Result<Names, AllocError>
 
 /// What the files of a node begin with: its cluster, its name, and the shape of its generation if it is a log.
 fn owner_of(alloc: Global, home: &Home, node: &str, shape: &[u8]) -> Result<Bytes, Memory> {
-    let owner = identity(alloc, &home.cluster, node.as_bytes(), shape)?;
+    let name = node.as_bytes();
+    // No name is: it is a word and two numbers.
+    if name.len() > LONGEST {
+        return Err(Memory);
+    }
+    let owner = identity(alloc, &home.cluster, name, shape)?;
     Ok(Bytes::from_vec(owner))
 }
 
@@ -168,6 +179,9 @@ fn put_first<D: Device>(
     second: D,
     group: &[Vec<u8>],
 ) -> Result<(), RecordFault> {
+    if group_len(group) > MOST {
+        return Err(RecordFault::Full);
+    }
     let _second = Segment::format(alloc, second)?;
     let mut file = Segment::format(alloc, first)?;
     file.append_group(alloc, group)
@@ -261,7 +275,26 @@ fn old_device(host: &HostRuntime, alloc: Global, names: &Names) -> Result<HostDe
     if !is_there(host, &names.old)? {
         return Err(NodeEnd::Unmade);
     }
-    device_at(host, alloc, names.old.as_str(), 0)
+    let mut device = device_at(host, alloc, names.old.as_str(), 0)?;
+    see_gate(&mut device)?;
+    Ok(device)
+}
+
+/// Sees that a device can have a file of version 0.2, which begins with a gate, so that nothing is written to another one.
+fn see_gate<D: Device>(device: &mut D) -> Result<(), NodeEnd> {
+    let len = match device.len() {
+        Ok(len) => len,
+        Err(_) => return Err(NodeEnd::Crashed(Crash::Device)),
+    };
+    if len == 0 {
+        return Err(NodeEnd::Crashed(Crash::Broken));
+    }
+    let mut gate = [0];
+    match device.read_at(0, &mut gate) {
+        Ok(()) if gate[0] <= 1 => Ok(()),
+        Ok(()) => Err(NodeEnd::Crashed(Crash::Broken)),
+        Err(_) => Err(NodeEnd::Crashed(Crash::Device)),
+    }
 }
 
 /// All records of a file of version 0.2.
