@@ -1,6 +1,7 @@
 #!/usr/bin/env python3
-"""play_library.py [--changed] [FILE..]: plays the scenarios of the machines that fdbrec.library wraps, and compares every
-tell.
+"""play_library.py [--changed] [FILE..]: plays the scenarios of the machines that fdbrec.library wraps.
+
+Every tell is compared.
 
 The files are those of scenarios/, whose README.md says what a row is; none named: all. A row that the library does not
 have is left out if it changes nothing, as `made`; else the scenario is played up to it (scenes.py has both lists). The

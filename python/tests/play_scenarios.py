@@ -1,9 +1,10 @@
-"""play_scenarios.py --player FILE [--transcript] [FILE..]: has a built test_scenarios play the rows of scenarios.
+"""play_scenarios.py --player FILE [--transcript] [FILE..] | --sample: has a test_scenarios play the rows of scenarios.
 
 The files are those of scenarios/, whose README.md says what a row is; none named: all. The program is asked row by row,
 and what it tells is compared here. A line for each scenario says how many of its rows it played, or which one differs;
 the last one, how many that were. The status is 1 where a row differs, cannot be read, or is played by nobody.
-With --transcript nothing is compared: it prints the lines that the program is asked.
+With --transcript nothing is compared: it prints the lines that the program is asked. --sample writes what `rt ci` runs
+the program on, and what it must print: of each word of first rows the scenario with the fewest rows.
 """
 
 from __future__ import annotations
@@ -203,7 +204,7 @@ def read_script(told, script):
 
 
 def form_of(told, form):
-    """The form that is written of one that was read, or the whole script as a text where it is not written as JSON is."""
+    """The form that is written of one that was read; as a text where it is not written as JSON is."""
     before, behind = place(told)
     text = read_script(told, before + form + behind)
     if text is None:
@@ -260,8 +261,8 @@ def meets(told, it, plan, call, byte):
 
 
 def ask_all(player, asks):
-    """Asks up to what the device lets: whether it failed, and how many asks were told. After a fault the file refuses, is
-    opened again, and is asked again."""
+    """Asks up to what the device lets: whether it failed, and how many asks were told. After a fault the file refuses,
+    is opened again, and is asked again."""
     has_failed = False
     for number, (word, given, wanted) in enumerate(asks):
         said = player.tell_of(word, given)
@@ -317,8 +318,8 @@ BEGUN = {
 
 
 def begins(first):
-    """The first rows with which the program plays a scenario: as (word, what is given). Some are played twice, in memory
-    and in tables or over a file."""
+    """The first rows with which the program plays a scenario, as (word, what is given). Some are played twice: in
+    memory, and in tables or over a file."""
     word, given = first.word, first.given
     if word == "housed_log" and "once" in json.loads(given):
         word = "failing_log"
@@ -385,6 +386,41 @@ def played(program, pages):
     return {name: "\n".join(lines).split("\n") for name, lines in faults.items() if lines}
 
 
+def names():
+    """The files of which the program plays a row."""
+    has_rows = lambda path: any(scenes.of_player(it) for it in scenes.read(path))  # noqa: E731
+    return [os.path.basename(it) for it in filter(has_rows, scenes.files())]
+
+
+def transcript(program, name):
+    """The lines that the program is asked where a file of scenarios is played, as bytes."""
+    (text,) = texts([f"{scenes.SCENARIOS}/{name}"])
+    return "".join(f"{it}\n" for it in play_text(program, *text)[2]).encode()
+
+
+def sample():
+    """The input and the output of a run with the shortest scenario of each kind, by the texts alone; of those that are
+    played as they stand."""
+    found = {}
+    for path in scenes.files():
+        for scenario in scenes.read(path):
+            rows = scenes.of_player(scenario)
+            is_plain = not any((word, row.word) in DOES for word in ("*", scenario.about) for row in rows)
+            if rows and is_plain and scenario.about != "audit_script":
+                found.setdefault(scenario.about, []).append((len(rows), scenario))
+    asked, told = [], []
+    for about in sorted(found):
+        _, scenario = min(found[about], key=lambda it: it[0])
+        for word, given in begins(scenario.rows[0]):
+            rows = scenes.of_player(scenario)
+            asked += [f"{word} {given}".strip(), *(f"{row.word} {row.given}".strip() for row in rows), ""]
+            told += ["made", *(written(json.loads(row.wanted)) for row in rows)]
+    return "".join(f"{it}\n" for it in asked), "".join(f"{it}\n" for it in told)
+
+
+SAMPLE = [f"{scenes.TOP}/crates/test_scenarios/{name}" for name in ("stdin", "stdout")]
+
+
 def texts(paths):
     for path in paths:
         with open(path, encoding="utf-8") as it:
@@ -403,11 +439,19 @@ def play_files(program, paths, whole):
 
 def main(words):
     its = argparse.ArgumentParser(usage=__doc__)
-    its.add_argument("--player", required=True)
+    its.add_argument("--player")
     its.add_argument("--transcript", action="store_true")
+    its.add_argument("--sample", action="store_true")
     its.add_argument("files", nargs="*")
     chosen = its.parse_args(words)
     paths, whole = chosen.files or scenes.files(), scenes.Count()
+    if chosen.sample:
+        for path, text in zip(SAMPLE, sample()):
+            with open(path, "w", encoding="utf-8") as it:
+                it.write(text)
+        return 0
+    if not chosen.player:
+        its.error("--player names no program")
     if chosen.transcript:
         for name, text in texts(paths):
             print("\n".join(play_text(chosen.player, name, text)[2]))

@@ -1,7 +1,7 @@
 """Scenarios (scenarios/README.md): what their texts say, and who plays which row.
 
-What the C library has calls for is played over it, from Python (play_library.py) and from Rust. All else is played by the
-program test_scenarios (play_scenarios.py), which is asked row by row. Each row has a player; `counts` says how many
+What the C library has calls for is played over it, from Python (play_library.py) and from Rust. All else is played by
+the program test_scenarios (play_scenarios.py), which is asked row by row. Each row has a player; `counts` says how many
 each is to play.
 """
 
@@ -29,8 +29,8 @@ LIBRARY = {
 # Rows for which it has none, and that change nothing: they are left out there, and others follow.
 UNCHANGING = {"made", "generation", "generations", "copied", "take_back", "failed", "state", "rows", "kept", "undone"}
 UNCHANGING |= {"get_at", "range", "lent", "lent_rows", "lent_bytes"}
-# Machines of which test_scenarios plays such scenarios alone in which a row has no call of the library, and what it has of
-# them; else it plays each row of each scenario.
+# Machines of which test_scenarios plays only the scenarios with a row for which the library has no call, and the rows
+# that it has of them. Of all others it plays each row.
 APART = {
     "cell": set(),
     "log": {"ask", "state", "take_back", "made"},
@@ -128,7 +128,7 @@ def whole(scenario):
         raise Bad(scenario.line, "a scenario without rows that compare anything")
     for row in rows:
         if (row.wanted is None) != (row is rows[0]):
-            raise Bad(row.line, "the first row makes something and has no arrow; each other one has one, and what is wanted")
+            raise Bad(row.line, "the first row makes something and has no arrow; each other one has one")
     return scenario
 
 
@@ -185,8 +185,8 @@ class Count:
 
 
 def counts(paths=None):
-    """Worked out from the texts alone: how many scenarios and rows there are, how many are played by test_scenarios, over
-    the C library, and over it alone; and the places of those that nobody plays."""
+    """Worked out from the texts alone: how many scenarios and rows there are, how many are played by test_scenarios,
+    over the C library, and over it alone; and the places of those that nobody plays."""
     every, player, library, alone, nobody = Count(), Count(), Count(), Count(), []
     for path in paths or files():
         for scenario in read(path):
@@ -201,8 +201,8 @@ def counts(paths=None):
 
 
 def kinds(rows_of, paths=None):
-    """Of each kind of row, by the words of the first row and of its own, the first one: the name of its file, its scenario,
-    and the row. `rows_of` are those of a scenario that are looked at."""
+    """Of each kind of row, by the words of the first row and of its own, the first one: the name of its file, its
+    scenario, and the row. `rows_of` are those of a scenario that are looked at."""
     found = {}
     for path in paths or files():
         for scenario in read(path):

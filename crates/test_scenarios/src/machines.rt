@@ -97,9 +97,7 @@ fn write_proxy(alloc: Global, proxy: &Proxy) -> RowTold {
 /// These numbers, and where shards begin.
 fn with_shards(alloc: Global, numbers: &[(&str, u64)], map: &ShardMap) -> RowTold {
     let shards = write_all(alloc, map.begins());
-    Ok(members(alloc, numbers)?
-        .put("shards", shards)?
-        .into_value())
+    Ok(members(alloc, numbers)?.put("shards", shards)?.into_value())
 }
 
 /// A recoverer that heard nothing.
