@@ -331,7 +331,7 @@ def begins(first):
 def play(player, scenario):
     """Plays a scenario: how many rows were compared, and of the first that differs its line and what is said of it."""
     rows, count = scenes.of_player(scenario), 0
-    for word, given in begins(scenario.rows[0]):
+    for word, given in begins(scenario.rows[0]) if rows else []:
         line, count = scenario.rows[0].line, 0
         try:
             player.make(word, given)
