@@ -147,12 +147,20 @@ def without(told, script):
 def reply(told, given):
     it = json.loads(given)
     told.replies.append([it["log"], it["durable"], it["known"]])
-    return end(told)
+    return end_in(ends(told)[-1])
 
 
-def end(told, _=None):
-    lines = run(told, written({"replies": told.replies}).encode())
-    word, *rest = lines[-1].split(" ") if lines else ["none"]
+def end(told, _):
+    """The end of now, which a refused reply leaves as it was."""
+    return end_in(next((it for it in reversed(ends(told)) if not it.startswith("refused")), "none"))
+
+
+def ends(told):
+    return run(told, written({"replies": told.replies}).encode())
+
+
+def end_in(line):
+    word, *rest = line.split(" ")
     if word == "pev":
         return {"pev": int(rest[0]), "rv": int(rest[2])}
     return {"none": None, "inconsistent": "Inconsistent", "refused": rest and rest[0]}[word]
