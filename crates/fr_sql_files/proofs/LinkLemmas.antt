@@ -61,6 +61,10 @@ module _ {S K : Type 0} (g : Ghosts S) (keeps : K → StoreState → Type 0) whe
   pub shut_told : (it : Shut S K) (l : Link S K) → l ≡ link.Shut it → IsLinkTold l l Failed
   shut_told it l is = subst (λ (m : Link S K). IsLinkTold m m Failed) (sym is) refl
 
+  -- a shut store is never idle, since it has failed
+  pub shut_works : {P : Type 0} (it : Shut S K) (l : Link S K) → l ≡ link.Shut it → is_failed l ≡ false → P
+  shut_works it l is works = absurd (true≢false (failed_shut it l is ∙ works))
+
   -- a shut store refuses no version, since it has failed
   pub shut_refuses : {T : Type 0} (it : Shut S K) (l : Link S K) (fault : StoreFault) (P : StoreState → Type 0) → fault ≢ Failed → l ≡ link.Shut it → (failed_answer {T = T} ≡ Err fault) ↔ ((is_failed l ≡ false) × P (state_of g l))
   shut_refuses it l fault P apart is =
@@ -70,6 +74,9 @@ module _ {S K : Type 0} (g : Ghosts S) (keeps : K → StoreState → Type 0) whe
 
   pub shown_open : (P : StoreState → Type 0) (old : Seen S) (l : Link S K) → l ≡ link.Open old → P (tables.state_of g old) → P (state_of g l)
   shown_open P old l is h = subst (λ (m : Link S K). P (state_of g m)) (sym is) h
+
+  pub idle_open : (P : StoreState → Type 0) (old : Seen S) (l : Link S K) → l ≡ link.Open old → (old.failed ≡ false → P (tables.state_of g old)) → is_failed l ≡ false → P (state_of g l)
+  idle_open P old l is h = subst (λ (m : Link S K). is_failed m ≡ false → P (state_of g m)) (sym is) h
 
   pub failed_open : (old : Seen S) (answer : Bool) (l : Link S K) → l ≡ link.Open old → answer ≡ old.failed → answer ≡ is_failed l
   failed_open old answer l is h = h ∙ sym (ap is_failed is)
