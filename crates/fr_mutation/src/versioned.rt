@@ -4,7 +4,7 @@ ghost use Rattle.std.specs.Prelude.{◌≡◌, IfOk};
 use crate::batch::Batch;
 use fr_base::{Memory, Version};
 
-/// A batch with the version of its commit, as a log gives it and a store takes it.
+/// A batch with the version of its commit.
 #[derive(Clone, Debug, Drop, PartialEq, Eq)]
 pub struct VersionedBatch {
     pub version: Version,

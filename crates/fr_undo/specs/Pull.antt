@@ -1,4 +1,4 @@
--- The calls that a pull of batches makes of a store, as data.
+-- The calls of a pull, as data.
 use Rattle.std.specs.Prelude.{◌≡◌, ◌⊎◌, ◌↔◌, ℕ, Bool, true, false, nat_lt, nat_le, ◌&&◌, ◌||◌, min, max, List, [], ◌∷◌, ◌++◌, fold, map, filter, Option, None, Some, Contains, IsTrue, Result, Err, OnOk, if◌then◌else◌}
 use Rattle.std.specs.List.{list_any}
 use Rattle.fr_mutation.specs.declared.mutation.Mutation.{Mutation}
@@ -32,7 +32,7 @@ called s (SetState bytes) = with_bytes s bytes
 abbrev pub after_calls : StoreState → List Call → StoreState
 after_calls s calls = fold called s calls
 
--- the stores that calls leave when they break off: before the first call, and after each one
+-- the stores on the way of calls: before the first call, and after each one
 abbrev pub stages : StoreState → List Call → List StoreState
 stages s [] = s ∷ []
 stages s (call ∷ calls) = s ∷ stages (called s call) calls
@@ -53,7 +53,7 @@ abbrev pub cut_at : Option ℕ → ℕ → ℕ
 cut_at None version = version
 cut_at (Some end) version = min version end
 
--- of some batches those above the version applied that are not above an end
+-- the batches above the version applied that are not above an end
 abbrev pub records_between : ℕ → Option ℕ → List VersionedBatch → List VersionedBatch
 records_between applied end records = filter (λ r. nat_lt applied r.version && is_within end r.version) records
 
