@@ -1,5 +1,5 @@
 -- A store that took an answer of a log.
-use Rattle.std.proofs.Common.{◌≡◌, ◌+◌, Bool, true, false, ◌||◌, List, ap, ◌∙◌, arith, IsTrue}
+use Rattle.std.proofs.Common.{◌≡◌, ◌+◌, Bool, true, false, ◌||◌, List, refl, ap, ◌∙◌, arith, IsTrue}
 use Rattle.std.specs.Prelude.{◌≢◌, Result, Ok, Err, OnOk, IfErr}
 use Rattle.fr_mutation.specs.Versioned.{is_rising_from}
 use Rattle.fr_undo.specs.declared.fault.StoreFault.{StoreFault}

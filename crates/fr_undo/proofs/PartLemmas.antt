@@ -1,5 +1,5 @@
 -- A pull makes of the keys that its batches touch what it makes of them in a whole store.
-use Rattle.std.proofs.Common.{◌≡◌, ℕ, ◌<◌, ◌≤◌, Bool, true, false, cond, ◌||◌, ◌&&◌, max, min, nat_lt, List, [], ◌∷◌, ◌++◌, map, Option, None, Some, IsSome, refl, sym, ap, ◌∙◌, subst, arith}
+use Rattle.std.proofs.Common.{◌≡◌, ℕ, ◌<◌, Bool, true, false, cond, ◌||◌, ◌&&◌, max, nat_lt, List, [], ◌∷◌, ◌++◌, map, Option, None, Some, IsSome, refl, sym, ap, ◌∙◌, subst, arith}
 use Rattle.std.specs.Prelude.{is_some, ◌==◌, ◌×◌}
 use Rattle.std.specs.Option.{option_or}
 use Rattle.std.specs.Cmp.{unsigned_Decides}
@@ -17,8 +17,8 @@ use Rattle.fr_mutation.proofs.MutationLemmas.{get-after}
 use Rattle.fr_undo.specs.State.{Place, place_cmp, StoreState, IsStoreState}
 use Rattle.fr_undo.specs.Trees.{Contents}
 use Rattle.fr_undo.specs.Law.{UntouchedLaw}
-use Rattle.fr_undo.specs.Undo.{same_value, before_if_changed, row_at, rows, joined, rows_above}
-use Rattle.fr_undo.specs.Pull.{Call, Apply, UndoTo, Advance, Forget, SetState, called, after_calls, is_within, records_between, any_touched, apply_of, reached, advance_calls, forget_calls, cut_at, calls_at, take_calls}
+use Rattle.fr_undo.specs.Undo.{before_if_changed, rows, joined, rows_above}
+use Rattle.fr_undo.specs.Pull.{Call, Apply, UndoTo, Advance, Forget, SetState, called, after_calls, is_within, records_between, any_touched, apply_of, advance_calls, forget_calls, calls_at, take_calls}
 use Rattle.fr_undo.specs.Net.{part_before, part_after}
 use Rattle.fr_undo.proofs.ChangeLemmas.{cond_none}
 use Rattle.fr_undo.proofs.UndoLemmas.{same_value-itself, get-joined, get-rows, get-rows_above}

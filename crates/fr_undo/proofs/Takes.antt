@@ -13,7 +13,7 @@ use Rattle.fr_undo.specs.Calls.{met_device, LeftAsIs, Writes}
 use Rattle.fr_undo.specs.Pull.{Call, Advance, Forget, called, after_calls, stages, is_within, records_between, reached, apply_of, advance_calls, forget_calls, cut_at, take_calls, IsWhole, LeavesStages, Takes}
 use Rattle.fr_undo.proofs.Applied.{Lies, begin, later, pass, leaves, take}
 use Rattle.fr_undo.proofs.StateLemmas.{extended_sound, advanced_sound, forgotten_sound}
-use Rattle.fr_undo.proofs.Stages.{after_both, front_stages, last_stages, one_stage, last_stage, refused_stages, applied_after, floor_after, applied_advanced, floor_advanced}
+use Rattle.fr_undo.proofs.Stages.{after_both, front_stages, last_stages, one_stage, last_stage, applied_after, floor_after, applied_advanced, floor_advanced}
 
 -- lists that are nothing together are nothing each
 pub none_first : {X : Type 0} (xs ys : List X) → xs ++ ys ≡ [] → xs ≡ []

@@ -1,9 +1,9 @@
-use Rattle.std.proofs.Common.{ℕ, List, Option, refl, ap, sym, subst, ◌∙◌}
+use Rattle.std.proofs.Common.{ℕ, List, Option, ap, sym, ◌∙◌}
 use Rattle.std.specs.Option.{option_or}
 use Rattle.std.specs.VecDeque.Iter.{deque_iter_rest}
 use Rattle.sqlite.specs.Held.{state}
 use Rattle.fr_undo.specs.State.{Place}
-use Rattle.fr_undo.specs.Rows.{RowList, row_in, IsInOrder}
+use Rattle.fr_undo.specs.Rows.{RowList, row_in}
 use Rattle.fr_undo.proofs.ListRows.{none_left}
 use Rattle.fr_sql_rows.specs.Rows.{before_in}
 use Rattle.fr_sql_calls.proofs.StepLemmas.{stays_then, nothing_then}

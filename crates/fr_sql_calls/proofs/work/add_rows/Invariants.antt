@@ -1,4 +1,4 @@
-use Rattle.std.proofs.Common.{◌≡◌, ℕ, List, None, IsSome}
+use Rattle.std.proofs.Common.{◌≡◌, ℕ, None, IsSome}
 use Rattle.std.specs.Option.{option_or}
 use Rattle.std.specs.FinMap as map
 use Rattle.std.specs.VecDeque.Iter.{deque_iter_rest}

@@ -1,4 +1,4 @@
-use Rattle.std.proofs.Common.{ℕ, List, ap, sym, ◌∙◌}
+use Rattle.std.proofs.Common.{ℕ, List, ◌∙◌}
 use Rattle.std.specs.BTreeMap as tree
 use Rattle.fr_base.specs.Bytes.{bytes_cmp}
 use Rattle.fr_undo.proofs.TreeLemmas.{copied_sorted}

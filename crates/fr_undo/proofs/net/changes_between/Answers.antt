@@ -1,10 +1,6 @@
-use Rattle.std.proofs.Common.{ℕ, List, ap, sym, ◌∙◌}
-use Rattle.std.specs.Option.{option_or}
-use Rattle.std.specs.Map.{lookup}
+use Rattle.std.proofs.Common.{ℕ, List, ◌∙◌}
 use Rattle.std.specs.BTreeMap as tree
-use Rattle.std.specs.BTreeMap.{is_at}
 use Rattle.fr_base.specs.Bytes.{bytes_cmp}
-use Rattle.fr_undo.specs.Net.{change_between}
 use Rattle.fr_undo.proofs.TreeLemmas.{copied_sorted}
 use Rattle.fr_undo.proofs.NetLemmas.{change_made, free_left, free_after}
 use Rattle.fr_undo.proofs.net.changes_between.Goals as goal

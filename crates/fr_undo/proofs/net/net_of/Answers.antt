@@ -1,4 +1,4 @@
-use Rattle.std.proofs.Common.{◌≡◌, sym, ap, ◌∙◌}
+use Rattle.std.proofs.Common.{◌≡◌, ap, ◌∙◌}
 use Rattle.fr_undo.specs.State.{StoreState}
 use Rattle.fr_undo.specs.Net.{part_after}
 use Rattle.fr_undo.proofs.NetLemmas.{net_changes, net_rows, part_is}

@@ -1,8 +1,7 @@
-use Rattle.std.proofs.Common.{rules, ◌≡◌, ◌+◌, ◌<◌, ◌≤◌, ℕ, Err, List, [], ◌∷◌, drop, map, min, sym, ap, subst, ◌∙◌}
+use Rattle.std.proofs.Common.{rules, ◌≡◌, ◌+◌, ◌<◌, ◌≤◌, ℕ, [], ◌∷◌, drop, map, min, sym, ap, subst, ◌∙◌}
 use Rattle.std.specs.Prelude.{Result}
 use Rattle.std.proofs.lemmas.Result.{err_from_is_err_and}
 use Rattle.fr_undo.specs.declared.fault.StoreFault.{StoreFault}
-use Rattle.fr_undo.specs.State.{StoreState}
 use Rattle.fr_undo.specs.Undo.{extended, advanced, forgotten}
 use Rattle.fr_undo.specs.Pull.{Advance, Forget, after_calls, records_between, apply_of, advance_calls, forget_calls, cut_at, take_calls, Takes, LeavesStages}
 use Rattle.fr_undo.proofs.Applied.{Lies, begin, drop_more, pass, take}
