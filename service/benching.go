@@ -19,6 +19,7 @@ import (
 // run is a bench: what its clients are to do, and what they did.
 type run struct {
 	keys  int // that each commit sets
+	bytes int // that each value has
 	left  int64
 	end   time.Time
 	began time.Time
@@ -73,6 +74,11 @@ func (w *words) asked() (its *run, clients, proxies int64, err error) {
 		return nil, 0, 0, err
 	}
 	its.keys = int(keys)
+	bytes, err := w.number("bytes", 100, 1, 100000)
+	if err != nil {
+		return nil, 0, 0, err
+	}
+	its.bytes = int(bytes)
 	proxies, err = w.number("proxies", 0, 1, 16)
 	return its, clients, proxies, err
 }
@@ -110,7 +116,7 @@ func bench(w *words) error {
 
 // puts commits keys of a client's own, one commit after another. A key is 16 bytes, half of them in each half of the keys.
 func (r *run) puts(c *client.Client, at int) {
-	value := []byte(strings.Repeat("v", 100))
+	value := []byte(strings.Repeat("v", r.bytes))
 	first := r.began.UnixNano() / 1000
 	for count := 0; time.Now().Before(r.end) && atomic.AddInt64(&r.left, -1) >= 0; {
 		var keys []string

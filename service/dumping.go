@@ -39,11 +39,8 @@ func dump(w *words) error {
 	return nil
 }
 
-// how much a commit of load has at most
-const (
-	mostRows  = 500
-	mostBytes = 200000
-)
+// mostRows is how many rows a commit of load has at most.
+const mostRows = 500
 
 // load puts the rows of dumps.
 func load(w *words) error {
@@ -58,13 +55,17 @@ func load(w *words) error {
 	}
 	paths := w.rest
 	w.rest = nil
+	config, err := w.config()
+	if err != nil {
+		return err
+	}
 	c, _, done, err := w.clientOf(0, 0)
 	if err != nil {
 		return err
 	}
 	defer done()
 	for _, path := range paths {
-		its := &loading{client: c}
+		its := &loading{client: c, most: config.BatchBytes() / 2}
 		count, err := readDump(path, its.take)
 		if err == nil {
 			err = its.commit()
@@ -82,11 +83,12 @@ type loading struct {
 	client *client.Client
 	its    []client.Mutation
 	size   int
+	most   int // how many bytes a commit is to have
 }
 
 func (l *loading) take(key, value []byte) error {
 	one := client.Set(key, value)
-	if len(l.its) == mostRows || len(l.its) > 0 && l.size+len(one) > mostBytes {
+	if len(l.its) == mostRows || len(l.its) > 0 && l.size+len(one) > l.most {
 		if err := l.commit(); err != nil {
 			return err
 		}

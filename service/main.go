@@ -27,10 +27,11 @@ const usage = `fdbrec-service COMMAND --config FILE ..
   get KEY [--settled | --stale]   print a value, as of all that was acknowledged before; --settled: as of the last
                                   version that no recovery takes back; --stale: where the storage server is
   watch KEY                       print each value that a key comes to have and keeps
-  bench --clients K --seconds N | --commits N [--keys M] [--proxies P] [--acks FILE] [--trace FILE]
-                                  put keys of their own, M in a commit (1), for so long or so many commits; --proxies: at
-                                  least P are used from the start on; --acks writes down each key that was acknowledged,
-                                  --trace when that commit began and ended, in nanoseconds since 1970
+  bench --clients K --seconds N | --commits N [--keys M] [--bytes B] [--proxies P] [--acks FILE] [--trace FILE]
+                                  put keys of their own, M in a commit (1), with values of B bytes (100), for so long or
+                                  so many commits; --proxies: at least P are used from the start on; --acks writes down
+                                  each key that was acknowledged, --trace when that commit began and ended, in
+                                  nanoseconds since 1970
   check --acks FILE               read what such a file has; status 1 if one is missing
   dump                            have each shard's rows, at a version that no recovery takes back, written into a file on
                                   the machine of its storage server; print where they are
@@ -98,7 +99,7 @@ type words struct {
 
 var valued = map[string]bool{"config": true, "machine": true, "number": true, "within": true, "log": true, "seconds": true,
 	"clients": true, "acks": true, "trace": true, "machines": true, "broker": true, "node": true,
-	"commits": true, "keys": true, "proxies": true, "drop-before": true}
+	"commits": true, "keys": true, "bytes": true, "proxies": true, "drop-before": true}
 var plain = map[string]bool{"json": true, "hex": true, "settled": true, "stale": true, "write": true, "join": true}
 
 func parse(its []string) (*words, error) {

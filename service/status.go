@@ -141,6 +141,9 @@ func shownNode(node *wire.NodeView, durable uint64) string {
 		switch {
 		case where.Log != nil:
 			text += fmt.Sprintf(" durable %d known %d file_kb %d", where.Log.Durable, where.Log.Known, node.Bytes>>10)
+			if node.Full {
+				text += " full"
+			}
 		case where.Storage != nil:
 			lag := uint64(0)
 			if durable > where.Storage.Version {

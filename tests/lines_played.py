@@ -66,7 +66,8 @@ def by_hand(checks, command, is_exact, kinds=ALL, files=(False, True)):
             continue
         for is_filed in files:
             with tempfile.TemporaryDirectory() as room:
-                more = ["--dir", room] if is_filed and words.split()[0] in ("cell", "log", "storage") else []
+                has_files = is_filed and words.split()[0] in ("cell", "log", "storage")
+                more = ["--dir", room, "--make"] if has_files else []
                 if is_filed and not more:
                     continue
                 words_of = with_config([*command, *words.split(), *more], config, room)
@@ -91,8 +92,8 @@ def again(checks, command, is_exact, scripts):
         with tempfile.TemporaryDirectory() as room:
             os.mkdir(f"{room}/files")
             words_of = with_config([*command, *words.split(), "--dir", f"{room}/files"], config, room)
-            for rows in processes:
-                played(checks, title, words_of, rows, is_exact)
+            for at, rows in enumerate(processes):
+                played(checks, title, words_of + ["--make"] * (at == 0), rows, is_exact)
 
 
 def ahead(checks, command, is_exact):
@@ -105,8 +106,8 @@ def ahead(checks, command, is_exact):
         with tempfile.TemporaryDirectory() as room:
             os.mkdir(f"{room}/files")
             words_of = with_config([*command, *words.split(), "--dir", f"{room}/files"], config, room)
-            for rows in processes:
-                played(checks, title, words_of, rows, is_exact, name)
+            for at, rows in enumerate(processes):
+                played(checks, title, words_of + ["--make"] * (at == 0), rows, is_exact, name)
 
 
 # ---- on a full disk
@@ -131,7 +132,8 @@ def filled(checks, words, title, folder, asks, most):
     os.mkdir(folder)
     words = [*words, "--dir", folder]
     limit = (lambda: resource.setrlimit(resource.RLIMIT_FSIZE, (most, most))) if most else None
-    ran = subprocess.run(words, input=b"\n".join(asks) + b"\n", capture_output=True, timeout=PATIENCE, preexec_fn=limit)
+    given = b"\n".join(asks) + b"\n"
+    ran = subprocess.run([*words, "--make"], input=given, capture_output=True, timeout=PATIENCE, preexec_fn=limit)
     (name,) = os.listdir(folder)
     size = os.path.getsize(f"{folder}/{name}")
     lasts = [it["last"] for it in (json.loads(it)["body"] for it in ran.stdout.splitlines()) if "last" in it]

@@ -1,5 +1,5 @@
 """Nodes of the built program over files of the host, and lines in and out that fail: each end with its text and its
-status."""
+status. What stands in the files is in tests/nodes_kept.py."""
 
 import itertools
 import json
@@ -13,14 +13,28 @@ import tempfile
 
 import built
 import lines
+import segments
 from lines_played import PATIENCE, line
 
 CELL = ["cell", "--index", "0"]
 LOG = ["log", "--epoch", "513", "--index", "0", "--logs", "4", "--degree", "2"]
-STORAGE = ["storage", "--tag", "0", "--config"]
+STORAGE = ["storage", "--tag", "0"]
+FILES = {"cell": ("cell-0.0", "cell-0.1"), "log": ("log-513-0.0", "log-513-0.1"), "storage": ("storage-0",)}
+OLD = {"cell": "cell-0", "log": "log-513-0"}
+NUMBERS = {"cell": ("--index",), "log": ("--epoch", "--index"), "storage": ("--tag",)}
+MAKE, ADOPT = ["--make"], ["--adopt"]
 NO_FILE = "no file: its folder is missing, or it is no plain file of ours, or a database's"
-BUSY, BROKEN, FAILED = "a file is in use", "a file is none of such a node", "a file failed"
+BUSY, BROKEN, FAILED = "a file is in use", "a file is damaged, or none of such a node", "a file failed"
+UNMADE = "no files of this node: --make makes them, --adopt takes over that of version 0.2"
+MISSING, THERE = "one of this node's two files is missing", "this node has files: none is made in their place"
+STRANGER = "a file is another node's, or another cluster's"
+NO_ROOM = "too little room: --room has to be greater"
 INIT = {"type": "init", "last": True}
+
+
+def name_of(kind):
+    """The name in lines of the node that words name."""
+    return " ".join([kind[0], *(kind[kind.index(word) + 1] for word in NUMBERS[kind[0]])])
 
 
 class Files:
@@ -32,13 +46,15 @@ class Files:
             json.dump(lines.CONFIG, it)
 
     def words(self, kind, folder):
-        config = [f"{self.room}/config.json"] if kind is STORAGE else []
-        return [*self.command, *kind, *config, "--dir", f"{self.room}/{folder}"]
+        more = ["--config", f"{self.room}/config.json"] if kind[0] == "storage" else []
+        if kind[0] in OLD and "--room" not in kind:
+            # (a program that is compiled without proofs takes long to set aside 256 MiB twice)
+            more += ["--room", "1048576"]
+        return [*self.command, *kind, *more, *(["--dir", f"{self.room}/{folder}"] if folder else [])]
 
     def run(self, kind, folder, given=(), **how):
         """What a process answers to bodies of lines, its status, and what it complains of."""
-        name = {"cell": "cell 0", "log": "log 513 0", "storage": "storage 0"}[kind[0]]
-        text = b"".join(line(name, at, body) + b"\n" for at, body in enumerate(given))
+        text = b"".join(line(name_of(kind), at, body) + b"\n" for at, body in enumerate(given))
         ran = subprocess.run(self.words(kind, folder), input=text, capture_output=True, timeout=PATIENCE, **how)
         return [json.loads(it)["body"] for it in ran.stdout.splitlines()], ran.returncode, ran.stderr.decode().strip()
 
@@ -48,7 +64,7 @@ class Files:
         found = []
         with subprocess.Popen(self.words(kind, folder), **pipes) as child:
             for at, body in enumerate(given):
-                child.stdin.write(line("log 513 0", at, body) + b"\n")
+                child.stdin.write(line(name_of(kind), at, body) + b"\n")
                 child.stdin.flush()
                 found.append(json.loads(child.stdout.readline())["body"])
             child.stdin.close()
@@ -56,12 +72,18 @@ class Files:
 
     def ends(self, kind, folder, status, text, title):
         found = self.run(kind, folder)
-        self.checks.check(found == ([], status, text), title, kind[0], "ended with", found, "and not", status, text)
+        wanted = "ended with", found, "and not", status, text
+        self.checks.check(found == ([], status, text), title, kind[0], *kind[-2:], *wanted)
 
     def make(self, name, content):
         os.makedirs(os.path.dirname(f"{self.room}/{name}"), exist_ok=True)
         with open(f"{self.room}/{name}", "wb") as it:
             it.write(content)
+
+    def pair(self, folder, kind=LOG):
+        """What is in the two files of a node."""
+        found = content(f"{self.room}/{folder}")
+        return tuple(found.get(name, b"") for name in FILES[kind[0]])
 
 
 def content(folder):
@@ -79,52 +101,231 @@ def refused(checks, command):
         files = Files(checks, command, room)
         files.make("plain", b"x")
         for kind in (CELL, LOG, STORAGE):
-            files.ends(kind, "none", 2, NO_FILE, "without its folder")
+            files.ends(kind, "none", 3, UNMADE, "without its folder")
+            files.ends([*kind, *MAKE], "none", 2, NO_FILE, "made without its folder")
             files.ends(kind, "plain", 2, NO_FILE, "with a file for its folder")
-        for name in ("cell-0", "log-513-0", "storage-0"):
+            files.ends([*kind, *MAKE], "plain", 2, NO_FILE, "made with a file for its folder")
+        checks.check(sorted(os.listdir(room)) == ["config.json", "plain"], "a refusal made", os.listdir(room))
+        for name in itertools.chain(*FILES.values()):
             os.makedirs(f"{room}/folders/{name}")
         for kind in (CELL, LOG, STORAGE):
             files.ends(kind, "folders", 2, NO_FILE, "with a folder for its file")
-        for text in (b"x", b"no file of a node" * 20):
-            for name in ("cell-0", "log-513-0", "storage-0"):
-                files.make(f"texts/{name}", text)
-            was = content(f"{room}/texts")
-            for kind in (CELL, LOG, STORAGE):
-                files.ends(kind, "texts", 3, BROKEN, "with a text for its file")
-            checks.check(content(f"{room}/texts") == was, "texts that were refused are other ones")
+            files.ends([*kind, *MAKE], "folders", 2, NO_FILE, "made over a folder")
+        for name in itertools.chain(*FILES.values()):
+            files.make(f"texts/{name}", b"no file of a node" * 20)
+        was = content(f"{room}/texts")
+        for kind in (CELL, LOG, STORAGE):
+            files.ends(kind, "texts", 3, BROKEN, "with a text for its file")
+            files.ends([*kind, *MAKE], "texts", 3, BROKEN, "made over a text")
+        checks.check(content(f"{room}/texts") == was, "texts that were refused are other ones")
+        bad_words(files)
+        made_once(files)
+        missing(files)
         of_others(files)
+        earlier(files)
         in_use(files)
 
 
+def bad_words(files):
+    """Words about files that do not go together, or are beyond their limits."""
+    os.mkdir(f"{files.room}/words")
+    for kind in (CELL, LOG):
+        for folder, more in (
+            ("", MAKE),
+            ("", ADOPT),
+            ("words", [*MAKE, *ADOPT]),
+            ("words", [*MAKE, "--cluster", ""]),
+            ("words", [*MAKE, "--cluster", "a" * 17]),
+            ("words", [*MAKE, "--cluster", "\u00e9" * 9]),
+            ("", ["--cluster", "a" * 17]),
+            ("words", [*MAKE, "--room", "65535"]),
+            ("words", [*MAKE, "--room", str(2**40 + 1)]),
+        ):
+            found, status, text = files.run([*kind, *more], folder)
+            is_so = (found, status) == ([], 2) and text.startswith("error: ") and "--help" in text
+            files.checks.check(is_so, kind[0], more, "ended with", found, status, text)
+    for folder, more in (("", MAKE), ("words", ADOPT), ("words", ["--cluster", "a"]), ("words", ["--room", "65536"])):
+        found, status, text = files.run([*STORAGE, *more], folder)
+        is_so = (found, status) == ([], 2) and text.startswith("error: ")
+        files.checks.check(is_so, "storage", more, "ended with", found, status, text)
+    found = files.run([*LOG, *MAKE, "--cluster", "\u00e9" * 8, "--room", str(2**40)], "words")
+    # (as many bytes as a name may have; and a machine has not so much memory as a file may have)
+    is_so = found == ([], 0, "") or found[:2] == ([], 3) and found[2].endswith("out of memory")
+    files.checks.check(is_so, "a terabyte of room: ended with", found)
+    files.ends([*LOG, *MAKE, "--cluster", "\u00e9" * 8], "words", 0, "", "a cluster of 16 bytes:") if found[1] else None
+    files.ends([*LOG, "--cluster", "\u00e9" * 8], "words", 0, "", "a cluster of 16 bytes:")
+
+
+def made_once(files):
+    """Files are made if that is said and there are none; those that hold nothing yet are made anew."""
+    checks, room = files.checks, files.room
+    os.mkdir(f"{room}/once")
+    for kind in (CELL, LOG, STORAGE):
+        files.ends(kind, "once", 3, UNMADE, "before its files are made")
+        checks.check(not content(f"{room}/once").keys() & set(FILES[kind[0]]), kind[0], "made a file unasked")
+        files.ends([*kind, *MAKE], "once", 0, "", "made")
+        files.ends([*kind, *MAKE], "once", 3, THERE, "made twice")
+        files.ends(kind, "once", 0, "", "over its files")
+    wanted = sorted(it for name in itertools.chain(*FILES.values()) for it in (name, f"{name}-wal"))
+    checks.check(sorted(os.listdir(f"{room}/once")) == wanted, "the folder has", os.listdir(f"{room}/once"))
+    was = content(f"{room}/once")
+    for name, text in was.items():
+        whole = name.endswith("-wal") or name == "storage-0"
+        checks.check(whole or len(text) < 100, "a file that was just made has", len(text), "bytes:", name)
+    # what a crash may leave while they are made: nothing, a byte, or a file of no groups, of each
+    empty = segments.file_of([])
+    rows = built.share(itertools.product((CELL, LOG), (None, b"", b"\0", empty), (None, b"", b"\0", empty)), 8)
+    for at, (kind, one, two) in enumerate(rows):
+        folder, lacking = f"begun-{at}", (one, two).count(None)
+        os.mkdir(f"{room}/{folder}")
+        for name, text in zip(FILES[kind[0]], (one, two)):
+            if text is not None:
+                files.make(f"{folder}/{name}", text)
+        files.ends(kind, folder, 3, MISSING if lacking == 1 else UNMADE, f"over {one} and {two}")
+        left = [name for name in FILES[kind[0]] if os.path.exists(f"{room}/{folder}/{name}")]
+        checks.check(len(left) == 2 - lacking, "a refusal made a file:", left)
+        files.ends([*kind, *MAKE], folder, 0, "", f"made over {one} and {two}")
+        wanted = tuple(was[it] for it in FILES[kind[0]])
+        checks.check(files.pair(folder, kind) == wanted, "made otherwise over", one, two)
+    files.make("begun/storage-0", b"")
+    files.ends(STORAGE, "begun", 3, UNMADE, "over an empty file")
+    files.ends([*STORAGE, *MAKE], "begun", 0, "", "made over an empty file")
+    # a folder whose name is nearly as long as a name may be
+    os.mkdir(f"{room}/{'a' * 251}")
+    for kind in (CELL, LOG, STORAGE):
+        files.ends([*kind, *MAKE], "a" * 251, 0, "", "made in a folder of a long name")
+        files.ends(kind, "a" * 251, 0, "", "in a folder of a long name")
+
+
+def missing(files):
+    """A node one of whose files is gone, or both: nothing is made in their place unasked."""
+    checks, room = files.checks, files.room
+    os.mkdir(f"{room}/whole")
+    for kind, asks in ((CELL, [lines.CELLS[3][0]]), (LOG, [lines.LOGS[2][0], lines.LOGS[4][0]])):
+        files.run([*kind, *MAKE], "whole", asks)
+        for gone in (FILES[kind[0]][:1], FILES[kind[0]][1:], FILES[kind[0]]):
+            shutil.rmtree(f"{room}/gone", ignore_errors=True)
+            shutil.copytree(f"{room}/whole", f"{room}/gone")
+            for name in gone:
+                os.remove(f"{room}/gone/{name}")
+            was = sorted(os.listdir(f"{room}/gone"))
+            files.ends(kind, "gone", 3, UNMADE if len(gone) == 2 else MISSING, f"without {gone}")
+            its = sorted(os.listdir(f"{room}/gone"))
+            checks.check(its == was, "without", gone, "it made", its)
+    for name in FILES["storage"]:
+        files.run([*STORAGE, *MAKE], "whole", [lines.STORAGES[2][0]])
+        os.remove(f"{room}/whole/{name}")
+        files.ends(STORAGE, "whole", 3, UNMADE, "without its database")
+        checks.check(not os.path.exists(f"{room}/whole/{name}"), "a database was made unasked")
+
+
 def of_others(files):
-    """A file of another kind of node, or another database, is refused and keeps its content; a store in a cell's name
-    too."""
+    """Files of another node, of another cluster, or of another shape are refused and keep their content, and so is
+    another database."""
     checks, room = files.checks, files.room
     for folder in ("made", "other"):
         os.mkdir(f"{room}/{folder}")
     given = {"type": "ask", "at": 1, "from": lines.RECOVERER}
-    files.run(CELL, "made", [given | {"ask": lines.read(513)}])
-    files.run(LOG, "made", [given | {"ask": lines.SEED}])
-    files.run(STORAGE, "made", [lines.STORAGES[2][0]])
+    files.run([*CELL, *MAKE], "made", [given | {"ask": lines.read(513)}])
+    files.run([*LOG, *MAKE], "made", [given | {"ask": lines.SEED}])
+    files.run([*STORAGE, *MAKE], "made", [lines.STORAGES[2][0]])
     made = content(f"{room}/made")
-    checks.check(set(made) >= {"cell-0", "log-513-0", "storage-0"}, "files were not made:", set(made))
-    swapped = {"cell-0": "log-513-0", "log-513-0": "cell-0", "storage-0": "cell-0"}
-    for name, other in swapped.items():
-        files.make(f"swapped/{name}", made[other])
-    for kind in (CELL, LOG, STORAGE):
-        files.ends(kind, "swapped", 3, BROKEN, "over another node's file")
-    checks.check(content(f"{room}/swapped") == {name: made[other] for name, other in swapped.items()}, "it is changed")
+    wanted = set(itertools.chain(*FILES.values()))
+    checks.check(set(made) >= wanted, "files were not made:", set(made))
+    log = lambda epoch, index, m, k: ["log", "--epoch", epoch, "--index", index, "--logs", m, "--degree", k]
+    # the words of another node, and the names by which it takes files for its own
+    for kind, names in (
+        (["cell", "--index", "1"], {"cell-0": "cell-1"}),
+        (CELL, {"log-513-0": "cell-0"}),
+        (LOG, {"cell-0": "log-513-0"}),
+        (log("513", "1", "4", "2"), {"log-513-0": "log-513-1"}),
+        (log("769", "0", "4", "2"), {"log-513-0": "log-769-0"}),
+        (log("513", "0", "4", "3"), {"log-513-0": "log-513-0"}),
+        (log("513", "0", "5", "2"), {"log-513-0": "log-513-0"}),
+        ([*CELL, "--cluster", "another"], {"cell-0": "cell-0"}),
+        ([*LOG, "--cluster", "fdbre"], {"log-513-0": "log-513-0"}),
+        ([*LOG, "--cluster", "fdbrecs"], {"log-513-0": "log-513-0"}),
+    ):
+        ((its, other),) = names.items()
+        shutil.rmtree(f"{room}/swapped", ignore_errors=True)
+        for end in (".0", ".1"):
+            files.make(f"swapped/{other}{end}", made[its + end])
+        was = content(f"{room}/swapped")
+        for words in (kind, [*kind, *MAKE]):
+            files.ends(words, "swapped", 3, STRANGER, f"over files of {its}")
+        checks.check(content(f"{room}/swapped") == was, "files of", its, "are changed by", kind)
+    files.make("swapped/storage-0", made["cell-0.0"])
+    for words in (STORAGE, [*STORAGE, *MAKE]):
+        files.ends(words, "swapped", 3, BROKEN, "over a cell's file")
+    checks.check(content(f"{room}/swapped")["storage-0"] == made["cell-0.0"], "a cell's file is changed")
+    for name in FILES["cell"]:
+        files.make(f"swapped/{name}", made["storage-0"])
+    files.ends(CELL, "swapped", 3, BROKEN, "over a database")
     database = sqlite3.connect(f"{room}/other/storage-0")
     database.execute("CREATE TABLE t (x)")
     database.commit()
     database.close()
     was = content(f"{room}/other")["storage-0"]
     files.ends(STORAGE, "other", 3, BROKEN, "over another database")
+    files.ends([*STORAGE, *MAKE], "other", 3, THERE, "made over another database")
     checks.check(content(f"{room}/other")["storage-0"] == was, "another database was changed")
-    # (the kind of its first record, behind a gate and a length, is none)
-    log = made["log-513-0"]
-    files.make("damaged/log-513-0", log[:5] + b"\0" + log[6:])
-    files.ends(LOG, "damaged", 3, BROKEN, "over a file with a byte changed")
+
+
+def earlier(files):
+    """Files that are put back: one of the two in the other's place, which is told; and both, which no file tells."""
+    checks, room = files.checks, files.room
+    _, is_turned = turned(files, "now", 2)
+    checks.check(is_turned, "the files did not let go")
+    pair, owner = files.pair("now"), segments.owner_of("fdbrec", "log 513 0", [4, 2])
+    at, number = segments.current(pair, owner)
+    checks.check(number == 3 and at == 0, "the current file is", number, "on device", at)
+    for newer, older in (pair, pair[::-1]):
+        for name in FILES["log"]:
+            files.make(f"older/{name}", older if newer is pair[0] else newer)
+        files.ends(LOG, "older", 3, BROKEN, "with the same file twice")
+    # the older file alone, beside one that holds nothing: as if it had never let go
+    for name, text in zip(FILES["log"], (segments.file_of([]), pair[1])):
+        files.make(f"early/{name}", text)
+    log = segments.log_of(segments.records_of((segments.file_of([]), pair[1]), owner), 513, 0, 4, 2)
+    found, status, text = files.run(LOG, "early", [INIT])
+    its = [it.get("last") for it in found]
+    checks.check((its, status, text) == ([{"log": log.last()}], 0, ""), "over an earlier file it stands at", its, text)
+
+
+def pushes(count, size, known=lambda version: version - 1, first=11):
+    """Bodies of lines that push batches of so many bytes to a log that has its mark, from a version on."""
+    for version in range(first, first + count):
+        batch = [{"set": {"key": f"{version % 256:02x}", "value": f"{version % 251:02x}" * size}}]
+        ask = lines.push(version, version + 1, known(version), [[0, batch]])
+        yield {"type": "ask", "at": 9, "from": lines.proxy(513), "ask": ask}
+
+
+def pop(through, tag=0):
+    return {"type": "ask", "at": 9, "from": lines.STORAGE, "ask": lines.pop(tag, through)}
+
+
+def lock(epoch=513):
+    return {"type": "ask", "at": 9, "from": {"recoverer": {"ballot": 769}}, "ask": lines.lock(epoch)}
+
+
+BEGUN = [lines.LOGS[2][0], lines.LOGS[4][0]]  # a seed and a mark
+LITTLE = [*LOG, "--room", "65536"]
+
+
+def turned(files, folder, times, size=1000, each=15):
+    """A log with little room is pushed to, with pops behind, until it has let go so often. The lines that it was given,
+    and whether it came to that."""
+    owner, given = segments.owner_of("fdbrec", "log 513 0", [4, 2]), list(BEGUN)
+    os.mkdir(f"{files.room}/{folder}")
+    files.run([*LITTLE, *MAKE], folder, given)
+    first = 11
+    for _ in range(8 * times):
+        more = [*pushes(each, size, first=first), pop(first + each - 5)]
+        files.run(LITTLE, folder, more)
+        given, first = given + more, first + each
+        if segments.current(files.pair(folder), owner)[1] > times:
+            return given, True
+    return given, False
 
 
 def in_use(files):
@@ -132,11 +333,12 @@ def in_use(files):
     os.mkdir(f"{files.room}/shared")
     for kind, name in ((CELL, "cell 0"), (LOG, "log 513 0"), (STORAGE, "storage 0")):
         pipes = {"stdin": subprocess.PIPE, "stdout": subprocess.PIPE, "stderr": subprocess.PIPE}
-        first = subprocess.Popen(files.words(kind, "shared"), **pipes)
+        first = subprocess.Popen(files.words([*kind, *MAKE], "shared"), **pipes)
         first.stdin.write(line(name, 0, INIT) + b"\n")
         first.stdin.flush()
         is_there = json.loads(first.stdout.readline())["body"]["type"] == "init_ok"
         files.ends(kind, "shared", 3, BUSY, "beside another process")
+        files.ends([*kind, *MAKE], "shared", 3, BUSY, "made beside another process")
         out, errors = first.communicate(line(name, 1, {"type": "last"}) + b"\n", PATIENCE)
         is_so = is_there and json.loads(out)["body"]["type"] == "last_ok" and (first.returncode, errors) == (0, b"")
         files.checks.check(is_so, kind[0], "that has its file ended with", first.returncode, out, errors)
@@ -157,7 +359,7 @@ def failed(checks, command):
         push = lines.asked(9, lines.proxy(513), lines.push(11, 13, 11, [[0, big]]), 10, {}, {})
         # (a line between the mark and the push, which would otherwise be one group)
         bodies = [lines.LOGS[2][0], lines.LOGS[4][0], {"type": "last"}, push[0]]
-        found, status, text = files.run(LOG, "files", [*bodies, INIT], preexec_fn=limited)
+        found, status, text = files.run([*LOG, *MAKE], "files", [*bodies, INIT], preexec_fn=limited)
         types = [(it["type"], it.get("code"), it.get("text")) for it in found]
         wanted = [("ask_ok", None, None), ("ask_ok", None, None), ("last_ok", None, None), ("error", 13, FAILED)]
         checks.check((types, status, text) == (wanted, 3, FAILED), "a write that is refused:", types, status, text)
@@ -168,58 +370,128 @@ def failed(checks, command):
 
 
 def full(checks, command):
-    """A file without room: a line that would need a byte more is refused and changes nothing, and one that needs none
-    more is taken; with more room the log goes on. (A push of one set of a byte's key is a record of 42 bytes and its
-    value, and stands behind five of its own.)"""
+    """A log without room: a push that would need a byte more is refused and changes nothing, and one that needs none
+    more is taken. It leaves 4,096 bytes free, so that a log without room is locked, popped and locked again; a pop
+    leaves 64 of them."""
 
-    def bodies(len):
-        big = [{"set": {"key": "61", "value": "00" * len}}]
+    def body(size):
+        big = [{"set": {"key": "61", "value": "00" * size}}]
         return lines.asked(9, lines.proxy(513), lines.push(11, 13, 11, [[0, big]]), 10, {}, {})[0]
 
     with tempfile.TemporaryDirectory() as room:
         files = Files(checks, command, room)
         os.mkdir(f"{room}/files")
-        little = [*LOG, "--room", "4096"]
-        files.run(little, "files", [lines.LOGS[2][0], lines.LOGS[4][0]])
-        was = content(f"{room}/files")["log-513-0"]
-        most = 4096 - len(was) - 5 - 42
-        found, status, text = files.run(little, "files", [bodies(most + 1), INIT])
+        owner = segments.owner_of("fdbrec", "log 513 0", [4, 2])
+        files.run([*LITTLE, *MAKE], "files", BEGUN)
+        state = segments.records_of(files.pair("files"), owner)
+        begun = segments.file_of([[segments.header(2, owner), *state]])
+        # (a push of one set of a byte's key is a record of 42 bytes and its value, with 4 bytes before it in a group of
+        # 14 bytes; it comes into a file that has let go of what it can)
+        most = 65536 - 4096 - len(begun) - 14 - 4 - 42
+        found, status, text = files.run(LITTLE, "files", [body(most + 1), INIT])
         types = [(it["type"], it.get("code"), it.get("text")) for it in found]
         is_so = types == [("error", 14, "Full"), ("init_ok", None, None)] and (status, text) == (0, "")
         checks.check(is_so, "a push without room:", types, status, text)
         checks.check(found[-1].get("last") == lines.log_last(11, 9), "it changed the log:", found[-1])
-        checks.check(content(f"{room}/files")["log-513-0"] == was, "it changed the file")
-        found, status, text = files.run(little, "files", [bodies(most), INIT])
+        left = segments.records_of(files.pair("files"), owner)
+        checks.check(left == state, "it changed the records:", left)
+        found, status, text = files.run(LITTLE, "files", [body(most), INIT])
         types = [(it["type"], it.get("last")) for it in found]
-        size = len(content(f"{room}/files")["log-513-0"])
-        is_so = types[0][0] == "ask_ok" and types[1:] == [("init_ok", lines.log_last(13, 11))] and size == 4096
+        size = max(map(len, files.pair("files")))
+        is_so = types[0][0] == "ask_ok" and types[1:] == [("init_ok", lines.log_last(13, 11))] and size == 65536 - 4096
         checks.check(is_so, "a push with just room:", size, types)
-        lock = {"log": {"lock": {"epoch": 513}}}
-        lock = {"type": "ask", "at": 19, "from": {"recoverer": {"ballot": 769}}, "ask": lock}
-        for words, wanted in ((little, ("error", "Full")), (LOG, ("ask_ok", None))):
-            found, status, text = files.run(words, "files", [lock])
-            types = [(it["type"], it.get("text")) for it in found]
-            is_so = (types, status, text) == ([wanted], 0, "")
-            checks.check(is_so, "a lock of a log that is full:", words, types, status, text)
+        more = lines.asked(9, lines.proxy(513), lines.push(13, 14, 11), 10, {}, {})[0]
+        kinds = lambda found: [it.get("text", it["type"]) for it in found[0]]
+        found = files.run(LITTLE, "files", [more, lock(), lock(), pop(11), pop(11), lock(), INIT])
+        is_so = kinds(found) == ["Full", *["ask_ok"] * 5, "init_ok"] and found[1:] == (0, "")
+        checks.check(is_so, "a log that is full, locked and popped:", found)
+        is_so = found[0][-1].get("last") == lines.log_last(13, 11, True, popped=[[0, 11]])
+        checks.check(is_so, "a log that is full, locked and popped, stands at", found[0][-1])
+        never_popped(files)
+        only_pops(files, owner)
+
+
+def filled(files, folder, size):
+    """A log that is never popped is pushed to until it refuses. Its last version, and the line that it refused. (Those
+    behind that line have a gap before them.)"""
+    os.mkdir(f"{files.room}/{folder}")
+    files.run([*LITTLE, *MAKE], folder, BEGUN)
+    given = list(pushes(65536 // size, size))
+    found, status, text = files.run(LITTLE, folder, [*given, INIT])
+    told = [it.get("text", it["type"]) for it in found]
+    at = told.index("Full") if "Full" in told else len(told) - 2
+    last = found[-1]["last"]["log"]["durable"]
+    is_so = 20 < at and told.count("Full") == 1 and (last, status, text) == (11 + at, 0, "")
+    files.checks.check(is_so, "pushes until it is full:", at, "of", len(told), "through", last, status, text)
+    return last, given[at]
+
+
+def never_popped(files):
+    """It is locked then, popped and locked again; once its state is little enough, it lets go, and takes more pops. A
+    log that was not locked takes pushes again."""
+    for is_locked in (False, True):
+        folder = f"never-{is_locked}"
+        last, refused_line = filled(files, folder, 500)
+        asks = [lock()] * is_locked + [pop(12), lock(), pop(14)] if is_locked else [pop(12), pop(14)]
+        found = files.run(LITTLE, folder, [*asks, INIT])
+        told = [it["type"] for it in found[0]]
+        is_so = told == ["ask_ok"] * len(asks) + ["init_ok"] and found[1:] == (0, "")
+        files.checks.check(is_so, "a full log, locked", is_locked, "is told", found)
+        wanted = lines.log_last(last, last - 2, is_locked, popped=[[0, 14]])
+        its = found[0][-1]["last"]
+        files.checks.check(its == wanted, "a full log stands at", its, "and not", wanted)
+        more = [*(pop(version) for version in range(15, last - 2)), lock() if is_locked else refused_line, INIT]
+        found = files.run(LITTLE, folder, more)
+        told = [it.get("text", it["type"]) for it in found[0]]
+        is_so = told == ["ask_ok"] * (len(more) - 1) + ["init_ok"] and found[1:] == (0, "")
+        files.checks.check(is_so, "a full log that is popped, locked", is_locked, "is told", told, found[1:])
+        last += not is_locked
+        wanted = lines.log_last(last, last - 2, is_locked, popped=[[0, last - 3 - (not is_locked)]])
+        its = found[0][-1]["last"]
+        files.checks.check(its == wanted, "popped to its end it stands at", its, "and not", wanted)
+
+
+def only_pops(files, owner):
+    """Pops of a log whose state takes more than half of its room are refused at last; a lock is not, and is there at
+    the next start."""
+    last, _ = filled(files, "pops", 100)
+    found = files.run(LITTLE, "pops", [pop(version) for version in range(12, min(last - 1, 172))])
+    told = [it.get("text", it["type"]) for it in found[0]]
+    some = told.index("Full") if "Full" in told else 0
+    is_so = 50 < some < len(told) - 5 and told == ["ask_ok"] * some + ["Full"] * (len(told) - some)
+    files.checks.check(is_so, "pops of a full log are told", told, found[1:])
+    size = max(map(len, files.pair("pops")))
+    files.checks.check(65536 - 64 - 28 < size <= 65536 - 64, "after its pops the file has", size, "bytes")
+    found = files.run(LITTLE, "pops", [lock(), lock(), INIT])
+    told = [it.get("text", it["type"]) for it in found[0]]
+    is_so = told == ["ask_ok", "ask_ok", "init_ok"] and found[1:] == (0, "")
+    files.checks.check(is_so, "a lock behind pops without room is told", told, found[1:])
+    log = segments.log_of(segments.records_of(files.pair("pops"), owner), 513, 0, 4, 2)
+    files.checks.check({"log": log.last()} == found[0][-1]["last"], "its file has", log.last(), "and not", found[0][-1])
 
 
 def together(checks, command):
-    """Lines that a log over its file reads at once, which it takes as groups: it answers as if they had come one by
-    one, and its file has the same bytes."""
+    """Lines that a log over its files reads at once, which it takes as groups: it answers as if they had come one by
+    one, and its file has the same records, in fewer groups."""
     by, pop = lines.proxy(513), {"log": {"pop": {"epoch": 513, "tag": 0, "through": 11}}}
     asks = [lines.push(at, at + 1, 11, [[0, lines.BATCH]]) for at in range(11, 81)]
     asks += [lines.PEEK, lines.push(90, 91, 11), lines.push(81, 82, 81), lines.push(20, 21, 11, [[0, lines.BATCH]])]
     asks += [lines.push(82, 83, 81), lines.PEEK, lines.PEEK, pop, lines.push(83, 84, 81), lines.PEEK]
-    given = [lines.LOGS[2][0], lines.LOGS[4][0]]
+    given = list(BEGUN)
     given += [{"type": "ask", "at": at % 7, "from": by, "ask": its} for at, its in enumerate(asks)]
     with tempfile.TemporaryDirectory() as room:
         files = Files(checks, command, room)
         for folder in ("once", "each"):
             os.mkdir(f"{room}/{folder}")
-        once, each = files.run(LOG, "once", given), files.each(LOG, "each", given)
+        once, each = files.run([*LOG, *MAKE], "once", given), files.each([*LOG, *MAKE], "each", given)
         checks.check(once == (*each, "") and each[1] == 0, "at once a log answers", once, "and one by one", each)
-        is_so = content(f"{room}/once") == content(f"{room}/each")
-        checks.check(is_so, "given lines at once a log has another file than given them one by one")
+        owner = segments.owner_of("fdbrec", "log 513 0", [4, 2])
+        pairs = files.pair("once"), files.pair("each")
+        records = [segments.records_of(pair, owner) for pair in pairs]
+        checks.check(records[0] == records[1], "given lines at once a log has other records than given them one by one")
+        counts = [len(segments.groups_in(pair[0])) for pair in pairs]
+        # (the header, a seed, a mark, 73 pushes, and a pop; a push with a gap before it and one that is held are none)
+        checks.check(counts[1] == 77 and counts[0] < 20, "groups of lines given at once, and one by one:", counts)
 
 
 def lines_that_fail(checks, command):
@@ -250,7 +522,7 @@ def answered_before(checks, files):
     ask = lines.CELLS[3][0]
     with open("/dev/full", "wb") as full:
         text = line("cell 0", 1, ask) + b"\n"
-        words = files.words(CELL, "files")
+        words = files.words([*CELL, *MAKE], "files")
         ran = subprocess.run(words, input=text, stdout=full, stderr=subprocess.PIPE, timeout=PATIENCE)
     checks.check(ran.returncode == 4, "on a full device it ended with", ran.returncode, ran.stderr)
     found, status, text = files.run(CELL, "files", [INIT])
@@ -296,7 +568,7 @@ def killed(checks, command, every=1):
         files = Files(checks, command, room)
         for at, (kind, before, body, stages) in enumerate(sweeps()):
             os.mkdir(f"{room}/before-{at}")
-            files.run(kind, f"before-{at}", [INIT, *before])
+            files.run([*kind, *MAKE], f"before-{at}", [INIT, *before])
             met = set()
             for call in ("pwrite64", "fdatasync"):
                 for number in itertools.count(1, every):

@@ -17,6 +17,7 @@ from served_net import Disk, Gate, Spaces
 SERVICE = f"{built.TOP}/service/fdbrec-service"
 PACKAGES = "golang-go golang-github-nats-io-go-nats-dev nats-server"
 NATS = "/usr/share/gocode/src/github.com/nats-io/nats.go"
+KINDS = "cell", "log", "sequencer", "proxy", "recoverer", "storage"
 
 
 def needs():
@@ -38,6 +39,11 @@ def node_words():
         return f"{given} node"
     python = "/usr/bin/python3" if os.access("/usr/bin/python3", os.X_OK) else "python3"
     return f"{python} {built.TOP}/examples/foreign/node"
+
+
+def is_built():
+    """Whether nodes are those of the built program, of which cells and logs keep two files in turn."""
+    return bool(os.environ.get("BUILT_FDBREC_NODE"))
 
 
 def start_seconds():
@@ -125,7 +131,7 @@ class Cluster:
         self.its[name].wait()
 
     def node_pids(self):
-        """The processes of nodes: by `m3 log 257 0` their numbers."""
+        """The processes of nodes: by `m3 log --epoch 257 --index 0` their numbers."""
         agents = {its.pid: name for name, its in self.its.items() if name.startswith("m")}
         found = {}
         for pid in filter(str.isdigit, os.listdir("/proc")):
@@ -136,8 +142,9 @@ class Cluster:
                     words = it.read().split("\0")
             except (OSError, ValueError):
                 continue
-            if parent in agents:
-                found[f"{agents[parent]} {' '.join(words[2:7])}"] = int(pid)
+            at = next((at for at, word in enumerate(words) if word in KINDS), None)
+            if parent in agents and at is not None:
+                found[f"{agents[parent]} {' '.join(words[at : at + 5])}"] = int(pid)
         return found
 
     def stop(self):

@@ -5,6 +5,7 @@ import json
 import os
 import re
 import shutil
+import signal
 import socket
 import subprocess
 import tempfile
@@ -174,9 +175,8 @@ def full_for_good(checks, room):
         load.communicate(timeout=120)
         checks.check(cluster.comes(20) is not None, "it goes on with a full disk:", cluster.last.stderr)
         newest = cluster.standing()["newest"]
-        begun = [it for at in (1, 2) for it in cluster.said(f"keeper-{at}", '"why":') if '"machines":' in it]
         checks.check(newest["epoch"] > 257 and newest["state"][-1]["m"] == 4, "the epoch has four logs:", newest)
-        checks.check(len(begun) <= 6, "recoveries that were begun:", begun)
+        checks.check(len(begun(cluster)) <= 6, "recoveries that were begun:", begun(cluster))
         cluster.disk.empty()
         checks.check(cluster.comes(60) is not None, "it goes on with room:", cluster.last.stderr)
         cluster.stop()
@@ -186,29 +186,36 @@ def full_for_good(checks, room):
         cluster.drop()
 
 
+ROOM = 65536  # bytes that each file of a cell or a log may have where files fill
+PUTS = ("--bytes", "2000", "--clients", "4")
+
+
 def filling(checks, room):
-    """Files of logs with little room: an epoch is ended before one is full, and the files of ended ones are erased."""
-    cluster = served.Cluster(room)
+    """Files of logs with little room. While storage servers pop, logs let go of what they popped, and an epoch goes on
+    for more than its files have room for. While one stands still they are full: epochs are ended, and nothing that was
+    acknowledged is lost."""
+    # (whether it goes on is asked here, over nodes that may be slow, and one that stands still for long)
+    cluster = served.Cluster(room, values={"suspect": '"5s"\nprogress = "30s"\nrecovery = "60s"\npatience = "5m"'})
     with open(cluster.config, "a", encoding="utf-8") as it:
-        it.write("\n[files]\nroom = 1048576\n")
+        it.write(f"\n[files]\nroom = {ROOM}\n")
     try:
         cluster.start_all()
         checks.check(cluster.comes(60) is not None, "it begins with small files:", cluster.last.stderr)
-        load = cluster.begin("bench", "--seconds", "30", "--clients", "4")
-        load.communicate(timeout=120)
-        checks.check(cluster.comes(20) is not None, "it goes on:", cluster.last.stderr)
-        why = [it for at in (1, 2) for it in cluster.said(f"keeper-{at}", '"why":') if '"machines":' in it]
-        rolled = [it for it in why if "with room for 1048576" in it]
-        checks.check(rolled and not any("is full" in it for it in why), "epochs that were ended:", why)
-        sizes = log_sizes(cluster)
-        checks.check(max(sizes) <= 1048576 and cluster.standing()["newest"]["epoch"] > 257, "files of logs:", sizes)
-        # (a state names generations until the next recovery, and no log is let go while one comes after the other)
+        if served.is_built():
+            letting_go(checks, cluster)
+        else:
+            print("files that let go are not tried: nodes in Python have none", flush=True)
+        standing_still(checks, cluster)
+        # (a state names generations until the next recovery, which drops those that all storage servers popped)
+        all_pop(checks, cluster)
         ran = cluster.run("recover")
         checks.check(ran.returncode == 0 and cluster.comes(60) is not None, "recover:", ran.stdout, ran.stderr)
         ends = time.monotonic() + 60
         while len(sizes := log_sizes(cluster)) > 16 and time.monotonic() < ends:
             time.sleep(0.5)
         checks.check(len(sizes) <= 16, "logs of ended epochs are let go:", sizes)
+        ran = cluster.run("check", "--acks", f"{room}/acks")
+        checks.check(ran.returncode == 0, "what was acknowledged is kept:", ran.stdout, ran.stderr)
         cluster.stop()
         line, why, _ = cluster.audit()
         checks.check(line == "audit ok", line, why)
@@ -216,8 +223,63 @@ def filling(checks, room):
         cluster.drop()
 
 
+def letting_go(checks, cluster):
+    """Commits of three times the room, in parts of a quarter of it. (Log 1 has those of both shards.)"""
+    for _ in range(12):
+        ran = cluster.run("bench", "--commits", "8", *PUTS, "--acks", f"{cluster.room}/acks", timeout=200)
+        checks.check("commits 8 failed map[]" in ran.stdout, "a part:", ran.stdout, ran.stderr)
+        all_pop(checks, cluster)
+    epoch, why = cluster.standing()["newest"]["epoch"], begun(cluster)
+    checks.check(epoch == 257 and not why, "the first epoch goes on:", epoch, why)
+    files = [f"{cluster.room}/m1/files/log-257-1.{at}" for at in (0, 1)]
+    sizes = [os.path.getsize(path) for path in files]
+    checks.check(ROOM // 2 < min(sizes) and max(sizes) <= ROOM, "both files of a log were in use:", sizes)
+
+
+def standing_still(checks, cluster):
+    """A storage server that stands still: the logs of its shard fill."""
+    its = [pid for name, pid in cluster.node_pids().items() if "storage --tag 0" in name]
+    checks.check(len(its) == 1, "storage server 0 runs:", cluster.node_pids())
+    os.kill(its[0], signal.SIGSTOP)
+    try:
+        ran = cluster.run("bench", "--commits", "60", *PUTS, "--acks", f"{cluster.room}/acks", timeout=250)
+    finally:
+        os.kill(its[0], signal.SIGCONT)
+    checks.check(ran.returncode == 0, "commits beside it:", ran.stdout, ran.stderr)
+    checks.check(cluster.comes(60) is not None, "it goes on:", cluster.last.stderr)
+    why, epoch = begun(cluster), cluster.standing()["newest"]["epoch"]
+    rolled = [it for it in why if "has files that are full" in it]
+    checks.check(rolled and len(rolled) == len(why) and epoch > 257, "epochs that were ended:", epoch, why)
+    sizes = log_sizes(cluster)
+    checks.check(max(sizes) <= 2 * ROOM, "files of logs:", sizes)
+
+
+def all_pop(checks, cluster):
+    """Waits until each storage server knows of all that was committed but the last batch or two, and has each log of
+    its shard let go of it."""
+    ends, stands = time.monotonic() + 150, []
+    while not is_caught_up(stands) and time.monotonic() < ends:
+        time.sleep(0.3)
+        its = cluster.standing()["machines"].values()
+        stands = [node["last"] for each in its for node in each["nodes"].values() if node.get("last")]
+    checks.check(is_caught_up(stands), "storage servers are where the logs are:", stands)
+    time.sleep(1.5)
+
+
+def is_caught_up(stands):
+    """Whether nodes stand so."""
+    floors = [it["storage"]["floor"] for it in stands if "storage" in it]
+    durable = max((it["log"]["durable"] for it in stands if "log" in it), default=0)
+    return len(floors) == 2 and min(floors) >= durable - 2
+
+
+def begun(cluster):
+    """The lines of keepers that say of a recovery why it was begun."""
+    return [it for at in (1, 2) for it in cluster.said(f"keeper-{at}", '"why":') if '"machines":' in it]
+
+
 def log_sizes(cluster):
-    """How many bytes the file of each log has."""
+    """How many bytes the files of each log have."""
     machines = cluster.standing()["machines"].values()
     return [its.get("bytes", 0) for each in machines for name, its in each["nodes"].items() if name.startswith("log-")]
 
@@ -414,37 +476,101 @@ def in_use(checks, cluster):
 
 def early(checks, cluster):
     """Nodes that are started before anybody rests on them, as those of a recovery that comes to nothing, are killed
-    with their agent: they are nobody's, and enter no crash. (The audit at the end would name them.)"""
+    with their agent: they are nobody's, and enter no crash. (The audit at the end would name them.) Before the second
+    start their agent has lost what came behind its note that it is about to make the log: its files are taken."""
     raw, epoch = Raw(raw_port(cluster)), 390 * 256 + 9
     for node in ({"log": {"epoch": epoch, "index": 0}}, {"sequencer": {"epoch": epoch}}):
         order = {"do": "start", "node": node, "logs": 4, "degree": 2, "last": 9, "known": 7, "at": 1}
         raw.say("fdbrec.dev.agent.m2.keeper-9", json.dumps(order).encode())
     raw.close()
-    is_up = lambda: [name for name in cluster.node_pids() if f"m2 log --epoch {epoch}" in name]
-    for _ in range(2):
-        ends = time.monotonic() + 30
+    path = f"{cluster.room}/m2/nodes/log-{epoch}-0.json"
+
+    def is_up():
+        runs = [name for name in cluster.node_pids() if f"m2 log --epoch {epoch}" in name]
+        return runs and os.path.exists(path) and b'"started"' in content(path)
+
+    for turn in range(3):
+        ends = time.monotonic() + 60
         while not is_up() and time.monotonic() < ends:
             time.sleep(0.2)
-        checks.check(is_up(), "the log that was ordered runs")
+        checks.check(is_up(), "the log that was ordered runs, in turn", turn)
         time.sleep(1)
-        cluster.kill("m2")
-        cluster.start("m2")
+        if turn < 2:
+            cluster.kill("m2")
+            if turn == 1:
+                shutil.rmtree(f"{cluster.room}/m2/journals/log-{epoch}-0")
+                with open(path, "r+b") as it:
+                    its = it.read().replace(b'"started"', b'"starting"')
+                    it.seek(0)
+                    it.write(its)
+            cluster.start("m2")
+    taken = cluster.said("m2", "files that were made before a kill are taken")
+    checks.check(len(taken) == served.is_built(), "the log was made once, and taken then:", taken)
     checks.check(cluster.comes(60) is not None, "it goes on after two kills of m2:", cluster.last.stderr)
 
 
 def lost_file(checks, cluster):
-    """A node whose file is missing is not started as a new one."""
-    cluster.its["m1"].terminate()
-    cluster.its["m1"].wait()
-    away = [name for name in os.listdir(f"{cluster.room}/m1/files") if name.startswith("cell-1")]
-    for name in away:
-        os.rename(f"{cluster.room}/m1/files/{name}", f"{cluster.room}/{name}")
-    cluster.start("m1")
-    ends, why = time.monotonic() + 30, ""
-    while "its files are missing" not in why and time.monotonic() < ends:
-        time.sleep(0.3)
-        why = cluster.standing()["machines"].get("m1", {}).get("nodes", {}).get("cell-1", {}).get("why", "")
-    checks.check("its files are missing" in why, "cell 1 without its file:", why)
-    for name in away:
-        os.rename(f"{cluster.room}/{name}", f"{cluster.room}/m1/files/{name}")
-    checks.check(cluster.comes(60) is not None, "it goes on once the file is back:", cluster.last.stderr)
+    """A node whose files are missing, damaged or another's is not started as a new one, and the agent says why. Once
+    the files are back it goes on."""
+    folder, others = f"{cluster.room}/m1/files", f"{cluster.room}/m0/files/cell-0.0"
+    cases = [("its files are missing", lambda: [os.remove(it) for it in paths_of(folder, "cell-1")])]
+    if served.is_built():
+        cases += [
+            ("one of this node's two files is missing", lambda: os.remove(f"{folder}/cell-1.1")),
+            ("a file is another node's", lambda: shutil.copy(others, f"{folder}/cell-1.0")),
+            ("a file is damaged", lambda: changed(f"{folder}/cell-1.0")),
+            ("no files of this node", lambda: [open(it, "wb").close() for it in paths_of(folder, "cell-1")]),
+        ]
+    for wanted, spoil in cases:
+        cluster.its["m1"].terminate()
+        cluster.its["m1"].wait()
+        before = {it: content(it) for it in paths_of(folder, "cell-1")}
+        spoil()
+        spoiled = {it: content(it) for it in paths_of(folder, "cell-1")}
+        cluster.start("m1")
+        began, its = time.monotonic(), {}
+        while wanted not in its.get("why", "") and time.monotonic() < began + 60:
+            time.sleep(0.3)
+            its = node_of(cluster, "m1", "cell-1")
+        time.sleep(1)
+        # (it is tried again each five seconds)
+        starts, most = node_of(cluster, "m1", "cell-1").get("starts", 0), 1 + (time.monotonic() - began) // 5
+        is_so = wanted in its.get("why", "") and its["state"] == "failed" and starts <= most
+        checks.check(is_so, "cell 1, of whose files", wanted, "is to be said:", its, starts, most)
+        said_so = [it for it in cluster.said("m1", "cannot be started over its files") if wanted in it]
+        checks.check(len(said_so) == 1, "the log of m1 says it once:", said_so)
+        checks.check({it: content(it) for it in paths_of(folder, "cell-1")} == spoiled, wanted, "and they were changed")
+        for path in paths_of(folder, "cell-1"):
+            os.remove(path)
+        for path, data in before.items():
+            with open(path, "wb") as it:
+                it.write(data)
+        checks.check(cluster.comes(60) is not None, "it goes on once the files are back:", cluster.last.stderr)
+        ends = time.monotonic() + 60
+        while its.get("state") != "up" and time.monotonic() < ends:
+            time.sleep(0.3)
+            its = node_of(cluster, "m1", "cell-1")
+        checks.check(its.get("state") == "up", "cell 1 is up once its files are back:", its)
+
+
+def node_of(cluster, machine, token):
+    """What a machine says of a node, or nothing yet."""
+    return cluster.standing()["machines"].get(machine, {}).get("nodes", {}).get(token, {})
+
+
+def paths_of(folder, token):
+    """The files of a node."""
+    return sorted(f"{folder}/{name}" for name in os.listdir(folder) if re.fullmatch(rf"{token}\D.*", name))
+
+
+def content(path):
+    with open(path, "rb") as it:
+        return it.read()
+
+
+def changed(path):
+    """Changes a byte in the middle of a file."""
+    data = bytearray(content(path))
+    data[len(data) // 2] ^= 1
+    with open(path, "wb") as it:
+        it.write(data)

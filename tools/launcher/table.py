@@ -56,18 +56,19 @@ _NEEDED = (_number("logs", 1, 16, is_required=True), _number("degree", 1, 16, is
 _CONFIG = _file("config", is_required=True)
 _DIR, _START = _file("dir", "DIR"), Option("start")
 _AHEAD = _wide("most-ahead", is_required=False)
-_ROOM = Option("room", "BYTES", range=(4_096, 1_099_511_627_776), is_signed=False)
+_ROOM = Option("room", "BYTES", range=(65_536, 1_099_511_627_776), is_signed=False)
+_FILES = (_DIR, _ROOM, _file("cluster", "NAME"), Option("make"), Option("adopt"))
 
 NODE = Command(
     "node",
     below=(
-        Command("cell", (_number("index", 0, 8, is_required=True), _file("config"), _DIR, _ROOM, _START, _AHEAD)),
+        Command("cell", (_number("index", 0, 8, is_required=True), _file("config"), *_FILES, _START, _AHEAD)),
         Command(
             "log",
-            (_wide("epoch"), _number("index", 0, 15, is_required=True), *_NEEDED, _START, _DIR, _ROOM, _AHEAD),
+            (_wide("epoch"), _number("index", 0, 15, is_required=True), *_NEEDED, *_FILES, _START, _AHEAD),
         ),
         Command("sequencer", (_wide("epoch"), _wide("last"), _AHEAD)),
-        Command("storage", (_number("tag", 0, 31, is_required=True), _CONFIG, _DIR, _AHEAD)),
+        Command("storage", (_number("tag", 0, 31, is_required=True), _CONFIG, _DIR, Option("make"), _AHEAD)),
         Command(
             "proxy",
             (_wide("epoch"), _number("number", 0, 15, is_required=True), _wide("known"), *_SHAPE, _CONFIG, _AHEAD),

@@ -1,7 +1,8 @@
 //! The cells that words name.
 use crate::fault::NodeEnd;
-use crate::files::{cell_device, cell_over};
+use crate::files::cell_over;
 use crate::nodes::{config_in, serve_kept};
+use crate::pairs::cell_files;
 use crate::serving::{MAX_LINE, serve};
 use crate::words::Home;
 use fr_base::{InMemory, NodeId};
@@ -12,7 +13,7 @@ use fr_world_nodes::start;
 use std::alloc::Global;
 use std::io::{Read, Write};
 
-/// Serves a cell, over its file if it has a home, else in memory.
+/// Serves a cell, over its files if it has a home, else in memory.
 pub(crate) fn cell<R: Read, W: Write>(
     host: &HostRuntime,
     alloc: Global,
@@ -95,7 +96,7 @@ fn config_if(
     }
 }
 
-/// Serves a cell over its file, as the world of a config starts with it if one is named.
+/// Serves a cell over its files, as the world of a config starts with it if one is named.
 fn cell_in<R: Read, W: Write>(
     host: &HostRuntime,
     alloc: Global,
@@ -110,8 +111,8 @@ fn cell_in<R: Read, W: Write>(
     if !has_cell(&config, index) {
         return Err(NodeEnd::NotThere);
     }
-    let device = cell_device(host, alloc, home, index)?;
-    let node = cell_over(alloc, device, &config)?;
+    let pair = cell_files(host, alloc, home, index)?;
+    let node = cell_over(alloc, pair, &config)?;
     serve_kept::<_, Apart, _, _>(alloc, node, NodeId::Cell { index }, ahead, reader, writer)
 }
 

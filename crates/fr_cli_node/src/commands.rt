@@ -30,6 +30,9 @@ fn cell_command<'a>(alloc: Global) -> Result<Command<'a>, Error> {
         .arg(config_word(alloc).help("The file that holds the config of the world, with --start"))?
         .arg(folder_word(alloc))?
         .arg(room_word(alloc))?
+        .arg(cluster_word(alloc))?
+        .arg(make_word(alloc))?
+        .arg(adopt_word(alloc))?
         .arg(start_word(alloc))?
         .arg(ahead_word(alloc))?;
     Ok(cell)
@@ -51,6 +54,9 @@ fn log_command<'a>(alloc: Global) -> Result<Command<'a>, Error> {
         .required(true))?
         .arg(folder_word(alloc))?
         .arg(room_word(alloc))?
+        .arg(cluster_word(alloc))?
+        .arg(make_word(alloc))?
+        .arg(adopt_word(alloc))?
         .arg(start_word(alloc))?
         .arg(ahead_word(alloc))?;
     Ok(log)
@@ -76,6 +82,7 @@ fn storage_command<'a>(alloc: Global) -> Result<Command<'a>, Error> {
         .arg(few(alloc, "tag", "Its tag, 0 to 31", 0, 31).required(true))?
         .arg(config_word(alloc).required(true))?
         .arg(folder_word(alloc))?
+        .arg(make_word(alloc))?
         .arg(ahead_word(alloc))?;
     Ok(storage)
 }
@@ -164,20 +171,43 @@ fn config_word<'a>(alloc: Global) -> Arg<'a> {
 fn folder_word<'a>(alloc: Global) -> Arg<'a> {
     Arg::new(alloc, "dir")
         .long("dir")
-        .help("The folder of its file, which is there; without it the node is in memory")
+        .help("The folder of its files, which is there; without it the node is in memory")
         .value_name("DIR")
         .action(ArgAction::Set)
 }
 
-/// How many bytes the file has room for, from a page to a terabyte. The default lasts a log for a million commits.
+/// How many bytes each of its two files may have, up to a terabyte. Half of a file is for what is live.
 fn room_word<'a>(alloc: Global) -> Arg<'a> {
     Arg::new(alloc, "room")
         .long("room")
-        .help("How many bytes its file has room for, with --dir")
+        .help("How many bytes each of its two files may have, with --dir")
         .value_name("BYTES")
-        .value_parser(value_parser!(u64).range(4_096..=1_099_511_627_776))
+        .value_parser(value_parser!(u64).range(65_536..=1_099_511_627_776))
         .action(ArgAction::Set)
         .default_value("268435456")
+}
+
+fn cluster_word<'a>(alloc: Global) -> Arg<'a> {
+    Arg::new(alloc, "cluster")
+        .long("cluster")
+        .help("The cluster whose its files are, 1 to 16 bytes, with --dir")
+        .value_name("NAME")
+        .action(ArgAction::Set)
+        .default_value("fdbrec")
+}
+
+fn make_word<'a>(alloc: Global) -> Arg<'a> {
+    Arg::new(alloc, "make")
+        .long("make")
+        .help("Makes its files, which are not there yet, with --dir")
+        .action(ArgAction::SetTrue)
+}
+
+fn adopt_word<'a>(alloc: Global) -> Arg<'a> {
+    Arg::new(alloc, "adopt")
+        .long("adopt")
+        .help("Makes its files from the one that version 0.2 left, with --dir")
+        .action(ArgAction::SetTrue)
 }
 
 /// How far ahead numbers may be. No run takes 2^32 rounds, stamps or commits at one step, and it leaves most of the 2^40
@@ -208,5 +238,5 @@ NAME of a node is as audit prints it, as 'cell 0' or 'log 257 0'. docs/NODES.md 
 each answers. A line that makes an entry of the node's journal has it in its answer; config and journals
 are then a script for audit.
 
-Statuses: 0 at the end of the input; 2 bad words, no config, or no file; 3 the node cannot go on: it is
-out of memory, or its file failed, is in use or another's; 4 input or output failed.";
+Statuses: 0 at the end of the input; 2 bad words, no config, or no folder; 3 the node cannot go on: it is
+out of memory, or its files are missing, damaged, another's, in use, or failed; 4 input or output failed.";

@@ -2,6 +2,7 @@
 use fr_base::{Memory as NoMemory, NodeFault};
 use fr_cli_json::CliFault;
 use fr_node::Crash;
+use fr_record::RecordFault;
 use std::alloc::{AllocError, AllocFailed};
 
 /// Why a node's process ends before its input does.
@@ -17,6 +18,16 @@ pub enum NodeEnd {
     NoFile,
     /// Somebody else has its file.
     Busy,
+    /// It has no files, and was not told to make them.
+    Unmade,
+    /// One of its two files is not there.
+    Missing,
+    /// It was told to make files, and has some.
+    There,
+    /// A file is another node's, or another cluster's.
+    Stranger,
+    /// Its files have too little room for what they are to begin with.
+    NoRoom,
     /// The node cannot go on.
     Crashed(Crash),
 }
@@ -34,9 +45,15 @@ impl NodeEnd {
             NodeEnd::NoFile =>
                 "no file: its folder is missing, or it is no plain file of ours, or a database's",
             NodeEnd::Busy => "a file is in use",
+            NodeEnd::Unmade =>
+                "no files of this node: --make makes them, --adopt takes over that of version 0.2",
+            NodeEnd::Missing => "one of this node's two files is missing",
+            NodeEnd::There => "this node has files: none is made in their place",
+            NodeEnd::Stranger => "a file is another node's, or another cluster's",
+            NodeEnd::NoRoom => "too little room: --room has to be greater",
             NodeEnd::Crashed(Crash::Memory) => "out of memory",
             NodeEnd::Crashed(Crash::Device) => "a file failed",
-            NodeEnd::Crashed(Crash::Broken) => "a file is none of such a node",
+            NodeEnd::Crashed(Crash::Broken) => "a file is damaged, or none of such a node",
             NodeEnd::Crashed(Crash::Store) => "a store failed",
         }
     }
@@ -46,7 +63,12 @@ impl NodeEnd {
         match self {
             NodeEnd::Command(fault) => fault.status(),
             NodeEnd::NoConfig | NodeEnd::NotThere | NodeEnd::NoFile => 2,
-            NodeEnd::Busy => 3,
+            NodeEnd::Busy
+            | NodeEnd::Unmade
+            | NodeEnd::Missing
+            | NodeEnd::There
+            | NodeEnd::Stranger
+            | NodeEnd::NoRoom => 3,
             NodeEnd::Crashed(_) => 3,
         }
     }
@@ -82,6 +104,18 @@ impl From<NodeFault> for NodeEnd {
             NodeFault::Memory => NodeEnd::Command(CliFault::Memory),
             NodeFault::Broken => NodeEnd::Crashed(Crash::Broken),
             NodeFault::Device | NodeFault::Full | NodeFault::Failed => {
+                NodeEnd::Crashed(Crash::Device)
+            }
+        }
+    }
+}
+
+impl From<RecordFault> for NodeEnd {
+    fn from(fault: RecordFault) -> NodeEnd {
+        match fault {
+            RecordFault::Memory => NodeEnd::Command(CliFault::Memory),
+            RecordFault::Broken => NodeEnd::Crashed(Crash::Broken),
+            RecordFault::Device | RecordFault::Full | RecordFault::Failed => {
                 NodeEnd::Crashed(Crash::Device)
             }
         }

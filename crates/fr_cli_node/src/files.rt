@@ -1,20 +1,19 @@
-//! Cells, logs and storage servers over files of the host. A node's file lies in a folder, and has the node's name. A
-//! second file, of its name and `-wal`, is beside it.
-ghost use Rattle.std.specs.Prelude.{◌≡◌, ◌<◌, ◌==◌, false, length, IfOk, IsTrue, OnOk};
-ghost use Rattle.fr_record.specs.Disk.{Stands};
+//! Cells, logs and storage servers over files. The files of a storage server lie in a folder: its database, by the name
+//! of the node, and a second file of this name and `-wal`.
+ghost use Rattle.std.specs.Prelude.{◌≡◌, ◌<◌, false, IfOk, IsTrue};
 
 use crate::fault::NodeEnd;
-use crate::words::Home;
+use crate::pairs::is_there;
+use crate::words::StoreFolder;
 use fr_base::{Bytes, LogId, Node, Shape, Tag, Version};
 use fr_cli_json::CliFault;
-use fr_host::{HostDevice, HostFault, Mirror, open};
+use fr_compact::{CompactLog, CompactNode};
+use fr_host::Mirror;
 use fr_log::{Log, LogAsk, Push, Seed};
 use fr_node::Crash;
-use fr_record::Device;
-use fr_record_log::LogNode;
-use fr_record_node::CellNode;
 use fr_register::{Cell, CellAsk};
 use fr_run::Config;
+use fr_segment::GroupFile;
 use fr_sql_files::{OpenFault, SqlFileStore};
 use fr_sql_rows::FaithfulDisk;
 use fr_storage::{Storage, StorageFault};
@@ -31,66 +30,19 @@ const HEAD: &[u8] = b"SQLite format 3\0";
 /// A file of the host that is read once, when it is opened.
 pub(crate) type HostFile = Mirror<FileFrom<Unknown>>;
 
-/// The file of a cell in its home, as a device.
-pub(crate) fn cell_device(
-    host: &HostRuntime,
-    alloc: Global,
-    home: &Home,
-    index: u8,
-) -> Result<HostDevice, NodeEnd> {
-    let folder = home.folder.as_str();
-    let path = format!(in alloc; "{folder}/cell-{index}")?;
-    device_at(host, alloc, path.as_str(), home.room)
-}
-
-/// The file of a log in its home, as a device.
-pub(crate) fn log_device(
-    host: &HostRuntime,
-    alloc: Global,
-    home: &Home,
-    id: &LogId,
-) -> Result<HostDevice, NodeEnd> {
-    let folder = home.folder.as_str();
-    let epoch = id.epoch.get();
-    let index = id.index;
-    let path = format!(in alloc; "{folder}/log-{epoch}-{index}")?;
-    device_at(host, alloc, path.as_str(), home.room)
-}
-
-/// A file as a device with so much room, or that of its bytes if they are more.
-fn device_at(
-    host: &HostRuntime,
-    alloc: Global,
-    path: &str,
-    room: usize,
-) -> Result<HostDevice, NodeEnd> {
-    match open(host, alloc, path, room) {
-        Ok(device) => Ok(device),
-        Err(fault) => Err(unopened(fault)),
-    }
-}
-
-/// Why a file was not opened.
-fn unopened(fault: HostFault) -> NodeEnd {
-    match fault {
-        HostFault::Busy => NodeEnd::Busy,
-        HostFault::Memory => NodeEnd::Command(CliFault::Memory),
-        HostFault::Full | HostFault::Failed => NodeEnd::Crashed(Crash::Device),
-        HostFault::Missing | HostFault::NotPlain | HostFault::Denied | HostFault::Database => {
-            NodeEnd::NoFile
-        }
-    }
-}
-
-/// The files of a storage server in a folder: a database and its log.
+/// The files of a storage server in a folder: a database and its log. New ones have to hold nothing, and others something.
 pub(crate) fn store_files(
     host: &HostRuntime,
     alloc: Global,
-    folder: &str,
+    folder: &StoreFolder,
     tag: Tag,
 ) -> Result<Files<HostFile>, NodeEnd> {
+    let name = folder.name.as_str();
     let number = tag.get();
-    let path = format!(in alloc; "{folder}/storage-{number}")?;
+    let path = format!(in alloc; "{name}/storage-{number}")?;
+    if !folder.is_new && !is_there(host, &path)? {
+        return Err(NodeEnd::Unmade);
+    }
     let Files { log, db } = match sqlite_std_file::open(host, path.as_str(), Unknown) {
         Ok(files) => files,
         Err(OpenError::Busy) => return Err(NodeEnd::Busy),
@@ -102,24 +54,44 @@ pub(crate) fn store_files(
         log: mirror(alloc, log)?,
         db: mirror(alloc, db)?,
     };
-    match hold_another(&mut files) {
-        Ok(false) => Ok(files),
-        Ok(true) => Err(NodeEnd::Crashed(Crash::Broken)),
+    match kind_of(&mut files) {
+        Ok(Held::Nothing) if folder.is_new => Ok(files),
+        Ok(Held::Nothing) => Err(NodeEnd::Unmade),
+        Ok(Held::Database) if folder.is_new => Err(NodeEnd::There),
+        Ok(Held::Database) => Ok(files),
+        Ok(Held::Another) => Err(NodeEnd::Crashed(Crash::Broken)),
         Err(_) => Err(NodeEnd::Crashed(Crash::Store)),
     }
 }
 
-/// Whether files can be seen to hold no database, so that nothing is written to them.
-fn hold_another(files: &mut Files<HostFile>) -> io::Result<bool> {
-    if !files.may_be_used() || files.log.len()? > 0 || files.db.len()? == 0 {
-        return Ok(false);
+/// What the files of a storage server hold.
+#[derive(Clone, Copy, Debug, PartialEq, Eq)]
+enum Held {
+    Nothing,
+    /// A database, as far as its first bytes say.
+    Database,
+    Another,
+}
+
+/// What files hold, by their first bytes, so that nothing is written to those of somebody else.
+fn kind_of(files: &mut Files<HostFile>) -> io::Result<Held> {
+    if !files.may_be_used() || files.log.len()? > 0 {
+        return Ok(Held::Database);
     }
     let mut head = [0; 16];
-    if files.db.len()? < head.len() {
-        return Ok(true);
+    let len = files.db.len()?;
+    if len == 0 {
+        return Ok(Held::Nothing);
+    }
+    if len < head.len() {
+        return Ok(Held::Another);
     }
     files.db.read_at(0, &mut head)?;
-    Ok(head.as_slice() != HEAD)
+    if head.as_slice() == HEAD {
+        Ok(Held::Database)
+    } else {
+        Ok(Held::Another)
+    }
 }
 
 /// A file that is read.
@@ -146,70 +118,41 @@ fn not_made(error: io::Error) -> NodeEnd {
     }
 }
 
-/// The cell that a device has, or one that was never asked if it has nothing. One with a config is as a world starts
-/// with it: a cell that is further is left as it is.
-pub(crate) fn cell_over<D: Device + Drop>(
+/// The cell that a file has, which is one that was never asked if the file has no records. One with a config is as a
+/// world starts with it: a cell that is further is left as it is.
+pub(crate) fn cell_over<F: GroupFile>(
     alloc: Global,
-    device: D,
+    file: F,
     config: &Option<Config>,
-) -> Result<CellNode<D>, NodeEnd>
-    ensures works { IfOk result (λ node. node.is_failed ≡ false) }
+) -> Result<CompactNode<Cell, F>, NodeEnd>
+    requires works { F.is_failed file ≡ false }
+    ensures works { IfOk result (λ node. F.is_failed node.file ≡ false) }
 {
-    let mut device = device;
-    let node = if has_nothing(&mut device)? {
-        CellNode::format(alloc, device, Cell::new(alloc))?
-    } else {
-        CellNode::open(alloc, device, Cell::new(alloc))?
-    };
+    let node = CompactNode::read(alloc, file, Cell::new(alloc))?;
     match config {
         Some(config) => started_cell(alloc, node, config),
         None => Ok(node),
     }
 }
 
-/// The log that a device has, as [`cell_over`] has a cell.
-pub(crate) fn log_over<D: Device + Drop>(
+/// The log that a file has, as [`cell_over`] has a cell.
+pub(crate) fn log_over<F: GroupFile>(
     alloc: Global,
-    device: D,
+    file: F,
     id: LogId,
     shape: &Shape,
     is_started: bool,
-) -> Result<LogNode<D>, NodeEnd>
+) -> Result<CompactLog<F>, NodeEnd>
     requires place { id.index < shape.now.m }
-    ensures works { IfOk result (λ node. node.is_failed ≡ false) }
+    requires works { F.is_failed file ≡ false }
+    ensures works { IfOk result (λ node. F.is_failed node.file ≡ false) }
 {
-    let mut device = device;
     let _within = shape.k();
-    let node = if has_nothing(&mut device)? {
-        LogNode::format(alloc, device, id, shape.m(), shape.k())?
-    } else {
-        LogNode::open(alloc, device, id, shape.m(), shape.k())?
-    };
+    let node = CompactLog::open(alloc, file, id, shape.m(), shape.k())?;
     if is_started {
         started_log(alloc, node, shape)
     } else {
         Ok(node)
-    }
-}
-
-/// Whether a device has nothing. One that can be seen to have no record file is refused, so that nothing is written to
-/// it: the first byte of such a file is a gate.
-fn has_nothing<D: Device>(device: &mut D) -> Result<bool, NodeEnd>
-    ensures nothing { IfOk result (λ empty. empty ≡ (length (D.disk device.old).content == 0)) }
-    ensures stands { OnOk result (Stands (D.disk device.old) (D.disk device.new)) }
-{
-    let len = match device.len() {
-        Ok(len) => len,
-        Err(_) => return Err(NodeEnd::Crashed(Crash::Device)),
-    };
-    if len == 0 {
-        return Ok(true);
-    }
-    let mut gate = [0];
-    match device.read_at(0, &mut gate) {
-        Ok(()) if gate[0] <= 1 => Ok(false),
-        Ok(()) => Err(NodeEnd::Crashed(Crash::Broken)),
-        Err(_) => Err(NodeEnd::Crashed(Crash::Device)),
     }
 }
 

@@ -1,7 +1,8 @@
 //! The logs that words name.
 use crate::fault::NodeEnd;
-use crate::files::{log_device, log_over};
+use crate::files::log_over;
 use crate::nodes::serve_kept;
+use crate::pairs::log_files;
 use crate::serving::{MAX_LINE, serve};
 use crate::together::Together;
 use crate::words::{Home, LogWords};
@@ -13,7 +14,7 @@ use fr_world_nodes::start;
 use std::alloc::Global;
 use std::io::{Read, Write};
 
-/// Serves a log, over its file if it has a home, else in memory.
+/// Serves a log, over its files if it has a home, else in memory.
 pub(crate) fn log<R: Read, W: Write>(
     host: &HostRuntime,
     alloc: Global,
@@ -79,7 +80,7 @@ fn first_log(alloc: Global, config: &Config, index: u8) -> Result<Log, NodeEnd> 
     }
 }
 
-/// Serves a log over its file, as a world starts with it or fresh.
+/// Serves a log over its files, as a world starts with it or fresh.
 fn log_in<R: Read, W: Write>(
     host: &HostRuntime,
     alloc: Global,
@@ -93,8 +94,8 @@ fn log_in<R: Read, W: Write>(
     if index >= words.shape.m() || words.is_started && epoch != start::first_epoch() {
         return Err(NodeEnd::NotThere);
     }
-    let device = log_device(host, alloc, home, &words.id)?;
-    let node = log_over(alloc, device, words.id, &words.shape, words.is_started)?;
+    let pair = log_files(host, alloc, home, words.id, &words.shape)?;
+    let node = log_over(alloc, pair, words.id, &words.shape, words.is_started)?;
     serve_kept::<_, Together, _, _>(
         alloc,
         node,

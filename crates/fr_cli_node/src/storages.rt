@@ -5,6 +5,7 @@ use crate::fault::NodeEnd;
 use crate::files::{storage_over, store_files};
 use crate::nodes::config_in;
 use crate::serving::{MAX_LINE, serve};
+use crate::words::StoreFolder;
 use fr_base::Tag;
 use fr_mutation::Shard;
 use fr_node::StorageNode;
@@ -23,7 +24,7 @@ pub(crate) fn storage<R: Read, W: Write>(
     alloc: Global,
     tag: Tag,
     config: &str,
-    folder: &Option<String>,
+    folder: &Option<StoreFolder>,
     ahead: u64,
     reader: &mut R,
     writer: &mut W,
@@ -34,7 +35,7 @@ pub(crate) fn storage<R: Read, W: Write>(
     };
     match folder {
         Some(folder) => {
-            let files = store_files(host, alloc, folder.as_str(), tag)?;
+            let files = store_files(host, alloc, folder, tag)?;
             storage_in(alloc, files, tag, &config, shard, ahead, reader, writer)
         }
         None => {

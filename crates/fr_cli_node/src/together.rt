@@ -5,19 +5,21 @@ ghost use Rattle.fr_cli_node.specs.Together.{IsGroupedPush, came_to, follows, gr
 ghost use Rattle.fr_log.specs.Push.{IsPush};
 ghost use Rattle.fr_log.specs.Step.{after_ask, answer_of};
 ghost use Rattle.fr_node.specs.Groups.{after_all, told_all};
-ghost use Rattle.fr_record.specs.Moments.{Throughout};
+ghost use Rattle.fr_compact.specs.Leading.{LeadsTo};
+ghost use Rattle.fr_compact.specs.LogSpare.{spare_log};
+ghost use Rattle.fr_compact.specs.Room.{HasNoRoom, spare_all};
 ghost use Rattle.fr_record_log.specs.Law.{written_all};
 ghost use Rattle.fr_record_log.specs.LogFile.{fresh_of, replay_log};
-ghost use Rattle.fr_record_node.specs.Node.{HasNoRoom, is_trouble};
-ghost use Rattle.fr_record_node.specs.Replay.{Opens};
+ghost use Rattle.fr_record_log.specs.Spelled.{spelled_log};
+ghost use Rattle.fr_record_node.specs.Node.{is_trouble};
 
 use fr_ask::{Ask, Last, Tell};
 use fr_base::{Memory, NodeFault, Version};
+use fr_compact::CompactLog;
 use fr_log::laws::{raise_law, tell_law};
 use fr_log::{Log, LogAsk, LogTell, Push};
 use fr_node::{Grouping, Groups};
-use fr_record::Device;
-use fr_record_log::LogNode;
+use fr_segment::GroupFile;
 use std::alloc::Global;
 
 /// Pushes and reads of a log over its file are one group: one write of the file, with two syncs. Other asks stand apart:
@@ -199,33 +201,38 @@ impl Grouping<Log> for Together {
     }
 }
 
-// The trait's clauses are said again, of a log over its file.
-impl<D: Device> Groups<LogNode<D>> for Together {
+// The trait's clauses are said again, of a log over its files.
+impl<F: GroupFile> Groups<CompactLog<F>> for Together {
+    ghost use Rattle.fr_compact.specs.LogSpare.{spare_log};
+    ghost use Rattle.fr_compact.specs.Room.{HasNoRoom, spare_all};
     ghost use Rattle.fr_record_log.specs.Law.{written_all};
-    ghost use Rattle.fr_record_node.specs.Node.{HasNoRoom};
+    ghost use Rattle.fr_record_log.specs.Spelled.{spelled_log};
 
-    ghost ServesApart = { λ n asks. HasNoRoom (D.capacity_of n.device) n.records (written_all n.machine asks) };
+    ghost ServesApart = { λ n asks. HasNoRoom F.room F.used F.next_room F.front n.file (spelled_log n.machine)
+        (written_all n.machine asks) (spare_all spare_log asks) };
 
     fn serve_all(
-        node: &mut LogNode<D>,
+        node: &mut CompactLog<F>,
         alloc: Global,
         asks: Vec<LogAsk>,
     ) -> Result<Option<Vec<LogTell>>, NodeFault>
-        requires works { node.old.is_failed ≡ false }
+        requires works { F.is_failed node.old.file ≡ false }
         ensures told { IfOk result (λ served. IfSome served (λ tells. tells.items ≡ told_all after_ask answer_of node.old.machine asks.items)) }
         ensures after { IfOk result (λ served. IfSome served (λ tells. node.new.machine ≡ after_all after_ask node.old.machine asks.items)) }
-        ensures apart { (result ≡ Ok None) → HasNoRoom (D.capacity_of node.old.device) node.old.records (written_all node.old.machine asks.items) }
+        ensures apart { (result ≡ Ok None)
+            → HasNoRoom F.room F.used F.next_room F.front node.old.file (spelled_log node.old.machine)
+            (written_all node.old.machine asks.items) (spare_all spare_log asks.items) }
         ensures still { (result ≡ Ok None) → node.new.machine ≡ node.old.machine }
         ensures err { OnErr result (node.new.machine ≡ node.old.machine) }
-        ensures fails { node.new.is_failed ≡ met_device result }
+        ensures fails { F.is_failed node.new.file ≡ met_device result }
         ensures never_full { result ≢ Err NodeFault.Full }
         ensures never_failed { result ≢ Err NodeFault.Failed }
         ensures trouble { IfErr result (λ fault. IsTrue (is_trouble fault)) }
         ensures any_moment { (node.new ≡ node.old)
-            ⊎ Throughout D.Led D.disk (Opens replay_log (fresh_of node.old.machine) (λ x. (x ≡ node.old.machine)
-            ⊎ (x ≡ after_all after_ask node.old.machine asks.items))) node.old.device node.new.device }
-        ensures kept { IfOk result (λ served. IfSome served (λ tells. Throughout D.Led D.disk (Opens replay_log (fresh_of node.new.machine) (λ x. x
-            ≡ node.new.machine)) node.new.device node.new.device)) }
+            ⊎ F.Throughout (LeadsTo replay_log (fresh_of node.old.machine) (λ x. (x ≡ node.old.machine)
+            ⊎ (x ≡ after_all after_ask node.old.machine asks.items))) node.old.file node.new.file }
+        ensures kept { IfOk result (λ served. IfSome served (λ tells. F.Throughout (LeadsTo replay_log (fresh_of node.new.machine) (λ x. x
+            ≡ node.new.machine)) node.new.file node.new.file)) }
     {
         match node.serve_all(alloc, asks) {
             Ok(tells) => Ok(Some(tells)),

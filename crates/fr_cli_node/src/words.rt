@@ -37,7 +37,7 @@ pub enum NodeWords {
     Storage {
         tag: Tag,
         config: String,
-        folder: Option<String>,
+        folder: Option<StoreFolder>,
     },
     /// A proxy of an epoch, of the shape of its generation, or of that of the first one.
     Proxy {
@@ -65,11 +65,33 @@ pub struct LogWords {
     pub home: Option<Home>,
 }
 
-/// The folder of a cell's or a log's file, and how many bytes the file has room for. One that has more already is full.
+/// Where a cell or a log has its two files: the folder, how many bytes each may have, and the cluster whose they are, by
+/// a name that is filled up with zeros.
 #[derive(Debug, Drop, PartialEq, Eq)]
 pub struct Home {
     pub folder: String,
     pub room: usize,
+    pub cluster: [u8; 16],
+    pub how: Opening,
+}
+
+/// How a node comes by its files. Which of these it is the caller has to say: a node whose files are gone would
+/// otherwise begin again as one that was never asked, and what it had promised would be lost in silence.
+#[derive(Clone, Copy, Debug, PartialEq, Eq)]
+pub enum Opening {
+    /// They are there.
+    Open,
+    /// They are not there, and are made.
+    Make,
+    /// They are not there, and are made from its file of version 0.2.
+    Adopt,
+}
+
+/// The folder of a storage server's database, and whether it is to be made.
+#[derive(Debug, Drop, PartialEq, Eq)]
+pub struct StoreFolder {
+    pub name: String,
+    pub is_new: bool,
 }
 
 /// The name of the folder, if it is there.
@@ -80,21 +102,59 @@ fn read_folder(alloc: Global, matches: &ArgMatches<'_>) -> Result<Option<String>
     }
 }
 
-/// The folder and the room, if a folder is there.
-fn read_home(alloc: Global, matches: &ArgMatches<'_>) -> Result<Option<Home>, AllocError> {
+/// How files are come by; None if two ways are named.
+fn read_opening(matches: &ArgMatches<'_>) -> Option<Opening> {
+    match (matches.get_flag("make"), matches.get_flag("adopt")) {
+        (false, false) => Some(Opening::Open),
+        (true, false) => Some(Opening::Make),
+        (false, true) => Some(Opening::Adopt),
+        (true, true) => None,
+    }
+}
+
+/// The name of a cluster, 1 to 16 bytes, filled up with zeros.
+fn read_cluster(name: &str) -> Option<[u8; 16]> {
+    let name = name.as_bytes();
+    if name.is_empty() || name.len() > 16 {
+        return None;
+    }
+    let mut cluster = [0; 16];
+    cluster[..name.len()].copy_from_slice(name);
+    Some(cluster)
+}
+
+/// The home of a cell or a log, if it has a folder; None if the words about its files do not go together.
+fn read_home(alloc: Global, matches: &ArgMatches<'_>) -> Result<Option<Option<Home>>, AllocError> {
     let room = matches.get_one::<u64>("room").unwrap_or(0);
-    match read_folder(alloc, matches)? {
-        Some(folder) => Ok(Some(Home {
+    let cluster = read_cluster(matches.get_str("cluster").unwrap_or(""));
+    match (read_folder(alloc, matches)?, read_opening(matches), cluster) {
+        (Some(folder), Some(how), Some(cluster)) => Ok(Some(Some(Home {
             folder,
             room: room as usize,
-        })),
-        None => Ok(None),
+            cluster,
+            how,
+        }))),
+        // Without a folder there is nothing to make.
+        (None, Some(Opening::Open), Some(_)) => Ok(Some(None)),
+        _ => Ok(None),
+    }
+}
+
+/// The folder of a storage server, if it has one; None if it is to make its files in no folder.
+fn read_store(
+    alloc: Global,
+    matches: &ArgMatches<'_>,
+) -> Result<Option<Option<StoreFolder>>, AllocError> {
+    match (read_folder(alloc, matches)?, matches.get_flag("make")) {
+        (Some(name), is_new) => Ok(Some(Some(StoreFolder { name, is_new }))),
+        (None, false) => Ok(Some(None)),
+        (None, true) => Ok(None),
     }
 }
 
 /// Reads which node the words of `node` name. clap has refused most mistakes before. Left are a number beyond the
-/// limits of its type, a degree above the number of logs or one of these two without the other, and a cell with only
-/// one of its start and its config.
+/// limits of its type, a degree above the number of logs or one of these two without the other, a cell with only one of
+/// its start and its config, and words about files without a folder.
 pub fn read_node_words(alloc: Global, matches: &ArgMatches<'_>) -> Result<NodeStart, Error> {
     match read_kind(alloc, matches)? {
         Some(node) => Ok(NodeStart {
@@ -158,7 +218,9 @@ fn read_shape(matches: &ArgMatches<'_>) -> Option<Option<Shape>> {
 /// A cell is as a world starts with it if both its config and `start` are there.
 fn read_cell(alloc: Global, matches: &ArgMatches<'_>) -> Result<Option<NodeWords>, AllocError> {
     let index = matches.get_one::<u8>("index").unwrap_or(0);
-    let home = read_home(alloc, matches)?;
+    let Some(home) = read_home(alloc, matches)? else {
+        return Ok(None);
+    };
     let config = match matches.get_str("config") {
         Some(name) => Some(String::from_str(alloc, name)?),
         None => None,
@@ -175,7 +237,9 @@ fn read_cell(alloc: Global, matches: &ArgMatches<'_>) -> Result<Option<NodeWords
 }
 
 fn read_log(alloc: Global, matches: &ArgMatches<'_>) -> Result<Option<NodeWords>, AllocError> {
-    let home = read_home(alloc, matches)?;
+    let Some(home) = read_home(alloc, matches)? else {
+        return Ok(None);
+    };
     let index = matches.get_one::<u8>("index").unwrap_or(0);
     let is_started = matches.get_flag("start");
     match (read_epoch(matches), read_shape(matches)) {
@@ -213,7 +277,9 @@ fn read_config(alloc: Global, matches: &ArgMatches<'_>) -> Result<String, AllocE
 
 fn read_storage(alloc: Global, matches: &ArgMatches<'_>) -> Result<Option<NodeWords>, AllocError> {
     let config = read_config(alloc, matches)?;
-    let folder = read_folder(alloc, matches)?;
+    let Some(folder) = read_store(alloc, matches)? else {
+        return Ok(None);
+    };
     match Tag::new(matches.get_one::<u8>("tag").unwrap_or(0)) {
         Some(tag) => Ok(Some(NodeWords::Storage {
             tag,

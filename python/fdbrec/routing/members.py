@@ -3,7 +3,7 @@
 import os
 
 from . import answers
-from .processes import Process, Trouble, spoken
+from .processes import Process, Trouble, once, spoken
 
 ENTERING = ("ask", "hear", "submit")  # the lines that are given again after a kill
 ANSWERED = ("init", "hear", "back")  # the lines that a storage server answers by where it stands
@@ -25,8 +25,15 @@ class Member:
         self.is_back = True  # whether `back` was answered since
 
     def start(self):
+        """Starts it: for the first time with the word that makes its files, else over those that it has."""
         words = self.words + (["--dir", f"{self.room}/files"] if self.has_files else [])
         with open(f"{self.room}/said/{self.text.replace(' ', '-')}", "ab") as errors:
+            if self.has_files and self.process is None:
+                words.append("--make")
+            elif self.has_files and not self.is_there():
+                # It was killed before it answered anything, maybe before its files were there: a process that is given
+                # no line makes them, unless they are there.
+                once(self.text, [*words, "--make"], errors)
             self.process = Process(self.text, words, errors)
         self.state = "up"
 

@@ -23,6 +23,17 @@ def spoken(name):
     return " ".join([kind, *(str(it[each]) for each in NUMBERS[kind])])
 
 
+def once(text, words, errors):
+    """Runs the process of a node to its end, without a line, whatever its status is."""
+    pipes = {"stdin": subprocess.DEVNULL, "stdout": subprocess.DEVNULL}
+    try:
+        subprocess.run(words, stderr=errors, start_new_session=True, timeout=PATIENCE, **pipes)
+    except OSError as why:
+        raise Trouble(f"{text} cannot be started: {why}") from None
+    except subprocess.TimeoutExpired:
+        raise Trouble(f"{text} goes on after the end of its input") from None
+
+
 class Process:
     """The process of a node. Lines without an answer are in `open`, in their order."""
 

@@ -359,11 +359,7 @@ func (a *Agent) alive() *wire.Alive {
 		Counts: a.bus.Counts.All()}
 	its.Newest, _ = a.newestAndMoved()
 	for _, n := range a.all() {
-		view := n.view()
-		if n.name.Kind == "log" {
-			view.Bytes = a.bytesOf(n) // (a keeper ends a generation before its files are full)
-		}
-		its.Nodes[n.name.Token()] = view
+		its.Nodes[n.name.Token()] = n.view()
 	}
 	var disk syscall.Statfs_t
 	if syscall.Statfs(a.room, &disk) == nil {

@@ -2,9 +2,7 @@ package agent
 
 import (
 	"encoding/json"
-	"errors"
 	"fmt"
-	"strings"
 	"time"
 
 	"fdbrec/service/internal/journal"
@@ -63,12 +61,21 @@ func (n *node) takeNext() (group []*item, hold <-chan time.Time) {
 }
 
 func (n *node) whyEnded() error {
-	text := n.process.Status()
-	if said := strings.TrimSpace(process.Said(n.agent.said(n.name))); said != "" {
-		lines := strings.Split(said, "\n")
-		text += ": " + lines[len(lines)-1]
+	return &ended{n.process.Status(), n.process.Code(), n.process.Said()}
+}
+
+// ended is how a process ended: by its status, and with what on standard error.
+type ended struct {
+	how  string
+	code int
+	said string
+}
+
+func (e *ended) Error() string {
+	if e.said == "" {
+		return e.how
 	}
-	return errors.New(text)
+	return e.how + ": " + e.said
 }
 
 // line spells a line.
@@ -267,7 +274,7 @@ func (n *node) takeAll(group []*item, found []*answer) error {
 
 // took does what an answer brings about: tells and asks leave, and whoever waits is told.
 func (n *node) took(it *item, its *answer) {
-	n.heed(its)
+	n.heed(it, its)
 	for _, text := range its.Entries {
 		var entry act
 		if !entry.read(text) {
@@ -311,13 +318,15 @@ func (n *node) heard(entry *act) {
 	}
 }
 
-// heed keeps where the node stands.
-func (n *node) heed(its *answer) {
+// heed keeps where the node stands. A log is full from a push that has no room in its file until it takes another one, since
+// its storage servers may pop meanwhile, or is locked. It keeps some room for locks and pops, so that it says nothing if one
+// of these has none.
+func (n *node) heed(it *item, its *answer) {
 	n.mutex.Lock()
 	defer n.mutex.Unlock()
 	if its.Type == "error" {
 		n.errors++
-		n.full = n.full || its.Text == "Full"
+		n.full = n.full || it.sort == "push" && its.Text == "Full"
 		n.agent.bus.Counts.Add("lines refused", 1)
 		return
 	}
@@ -327,6 +336,9 @@ func (n *node) heed(its *answer) {
 	}
 	var stands where
 	if json.Unmarshal(last, &stands) == nil {
+		if was, now := n.where.Log, stands.Log; was != nil && now != nil && (now.Durable > was.Durable || now.Stopped) {
+			n.full = false
+		}
 		n.where = stands
 	}
 	n.last = last

@@ -53,6 +53,30 @@ func isFailed(n *node) bool {
 	return n.state == "failed" && strings.Contains(n.why, "its journal cannot be written")
 }
 
+// A log is full from a push without room until it takes one; other lines without room say nothing of that.
+func TestFullLog(t *testing.T) {
+	a := agentIn(t)
+	n := a.newNode(itsLog, "started")
+	full, refused := &answer{Type: "error", Code: 14, Text: "Full"}, &answer{Type: "error", Code: 14, Text: "TooFar"}
+	at := func(durable int) *answer {
+		return &answer{Type: "ask_ok", Last: json.RawMessage(fmt.Sprintf(`{"log":{"durable":%d}}`, durable))}
+	}
+	locked := &answer{Type: "ask_ok", Last: json.RawMessage(`{"log":{"durable":8,"stopped":true}}`)}
+	for number, row := range []struct {
+		sort   string
+		its    *answer
+		wanted bool
+	}{
+		{"", at(7), false}, {"pop", full, false}, {"seed", full, false}, {"push", refused, false}, {"push", full, true},
+		{"pop", at(7), true}, {"push", at(7), true}, {"push", full, true}, {"push", at(8), false}, {"push", full, true},
+		{"lock", locked, false},
+	} {
+		if n.heed(&item{sort: row.sort}, row.its); n.view().Full != row.wanted {
+			t.Errorf("after answer %d, to %s: %v", number, row.sort, !row.wanted)
+		}
+	}
+}
+
 // A node whose journal has no room is given nothing, and is failed. Once there is room it goes on, and is up again.
 func TestJournalWithoutRoom(t *testing.T) {
 	n, pop, text, room := fillable(t)

@@ -48,6 +48,7 @@ func (a *Agent) Metrics() string {
 			continue
 		}
 		if log := stands.Log; log != nil {
+			made.Add("gauge", "log_full", truth(each.Full), "node", token)
 			made.Add("gauge", "log_durable", log.Durable, "node", token)
 			made.Add("gauge", "log_known", log.Known, "node", token)
 		}

@@ -255,7 +255,7 @@ func (a *Agent) startNode(its wire.Order) error {
 		return fmt.Errorf("this agent is stopping")
 	}
 	// (noted first, so that a node without files never starts twice)
-	if err := a.note(its, "starting"); err != nil {
+	if err := a.noteStart(its); err != nil {
 		return err
 	}
 	a.add(its, "starting")

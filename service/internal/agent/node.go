@@ -3,7 +3,6 @@ package agent
 import (
 	"encoding/json"
 	"errors"
-	"fmt"
 	"os"
 	"path/filepath"
 	"sync"
@@ -28,7 +27,7 @@ type node struct {
 	agent  *Agent
 	name   names.Node
 	order  wire.Order
-	noted  bool // that it is started is on disk
+	noted  bool // that it is about to be started is on disk
 	made   bool // its process ran before, so that its files must be there
 	slow   report.Times
 	wake   chan struct{}
@@ -133,10 +132,15 @@ func (n *node) serve() {
 			return
 		}
 	}
+	refusal := ""
 	for pause := shortRest; ; {
 		began := time.Now()
+		if refusal == "" {
+			n.set("starting", "")
+		}
 		err = n.begin()
 		if err == nil {
+			refusal = ""
 			n.set("up", "")
 			err = n.run()
 		}
@@ -151,6 +155,9 @@ func (n *node) serve() {
 		n.set("failed", err.Error())
 		if time.Since(began) > longestRest {
 			pause = shortRest
+		}
+		if refusal = n.refused(err, refusal); refusal != "" {
+			pause = longestRest
 		}
 		select {
 		case <-n.stop:
@@ -181,22 +188,33 @@ func (n *node) halt() {
 
 // begin starts the process. One that ran before hears what was under way, and is given again what it did not answer.
 func (n *node) begin() error {
-	if n.made && n.name.HasFiles() && !n.agent.hasFiles(n.name) {
-		return fmt.Errorf("its files are missing in %s", filepath.Join(n.agent.room, "files"))
-	}
 	if !n.noted {
-		if err := n.agent.note(n.order, "starting"); err != nil {
+		if err := n.agent.noteStart(n.order); err != nil {
 			return err
 		}
 		n.noted = true
 	}
-	n.set("starting", "")
-	words, err := n.agent.words(n.order)
+	if err := n.start(); err != nil {
+		return err
+	}
+	if !n.made && n.name.HasFiles() {
+		if err := n.agent.note(n.order, "started"); err != nil {
+			n.process.Kill()
+			n.process.End(time.Second)
+			return err
+		}
+	}
+	n.made = true
+	return nil
+}
+
+// launch starts the process, and greets it.
+func (n *node) launch(makes bool) error {
+	words, err := n.agent.words(n.order, makes)
 	if err != nil {
 		return err
 	}
-	token := n.name.Token()
-	n.process, err = process.Start(words, filepath.Join(n.agent.room, "locks", token), n.agent.said(n.name), 5*time.Second)
+	n.process, err = process.Start(words, filepath.Join(n.agent.room, "locks", n.name.Token()), n.agent.said(n.name), 5*time.Second)
 	if err != nil {
 		return err
 	}
@@ -209,14 +227,6 @@ func (n *node) begin() error {
 		n.process.End(time.Second)
 		return err
 	}
-	if !n.made && n.name.HasFiles() {
-		if err := n.agent.note(n.order, "started"); err != nil {
-			n.process.Kill()
-			n.process.End(time.Second)
-			return err
-		}
-	}
-	n.made = true
 	return nil
 }
 
@@ -396,9 +406,7 @@ func bare(last json.RawMessage) json.RawMessage {
 
 func (a *Agent) said(name names.Node) string { return filepath.Join(a.room, "said", name.Token()) }
 
-// hasFiles says whether a node has a file: one of its name, whatever stands behind it.
-func (a *Agent) hasFiles(name names.Node) bool { return len(a.files(name)) > 0 }
-
+// files are the files of a node: those of its name, whatever stands behind it.
 func (a *Agent) files(name names.Node) []string {
 	var found []string
 	entries, _ := os.ReadDir(filepath.Join(a.room, "files"))

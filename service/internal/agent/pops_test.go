@@ -23,6 +23,7 @@ func TestMain(m *testing.M) {
 	if os.Getenv("IS_A_LOG") == "" {
 		os.Exit(m.Run())
 	}
+	openFile()
 	for lines := bufio.NewScanner(os.Stdin); lines.Scan(); {
 		var line struct {
 			Body struct {
@@ -151,5 +152,38 @@ func TestLatePop(t *testing.T) {
 	}
 	if isLatePop([]*item{{sort: "pop", until: 5, regive: true}}, 9000) || isLatePop([]*item{{sort: "peek"}}, 9000) {
 		t.Error("what is no new pop is judged late")
+	}
+}
+
+// A storage server whose floor rose is asked on for a while, though nothing is committed: each log of its shard is to be
+// popped, and one that is full waits for that.
+func TestPopsOn(t *testing.T) {
+	a := agentIn(t)
+	a.moved = 9
+	n := a.newNode(wire.Order{Node: names.Node{Kind: "storage"}}, "started")
+	n.state = "up"
+	now := time.Now()
+	stands := func(floor int) {
+		if err := json.Unmarshal([]byte(fmt.Sprintf(`{"storage":{"epoch":257,"floor":%d,"version":9}}`, floor)), &n.where); err != nil {
+			t.Fatal(err)
+		}
+	}
+	isAsked := func(later time.Duration) bool {
+		now = now.Add(later)
+		was := n.storage.turn
+		n.storage.pull(now)
+		n.storage.wants(nil)
+		return n.storage.turn > was
+	}
+	stands(3)
+	if !isAsked(0) || isAsked(trailing/2) || !isAsked(trailing/2) {
+		t.Error("after its floor rose it is not asked as often as one that follows")
+	}
+	if !isAsked(popsOn) || isAsked(trailing) || !isAsked(idle) || isAsked(trailing) {
+		t.Error("a while later it is not asked as seldom as one for which there is nothing")
+	}
+	stands(5)
+	if !isAsked(trailing) || !isAsked(trailing) {
+		t.Error("once its floor rises again it is not asked more often")
 	}
 }

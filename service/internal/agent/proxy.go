@@ -63,7 +63,7 @@ func (p *proxy) submit(its *wire.Submit, reply func(wire.Submitted)) {
 		one.size += len(each) + 1
 	}
 	if most := p.node.agent.config.BatchBytes(); one.size > most {
-		reply(wire.Submitted{Refused: "it has more bytes than a batch may have by max_payload", IsBad: true, Epoch: epoch})
+		reply(wire.Submitted{Refused: "it has more bytes than a batch may have by max_payload and room", IsBad: true, Epoch: epoch})
 		return
 	}
 	p.mutex.Lock()

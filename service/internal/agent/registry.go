@@ -224,8 +224,8 @@ func (a *Agent) closeJournal(name names.Node, its *journal.Journal) {
 // for days is rightly behind by more than the 2^32 that a node takes if it is told nothing.
 const mostAhead = uint64(1) << 40
 
-// words are the program of a node and its words.
-func (a *Agent) words(order wire.Order) ([]string, error) {
+// words are the program of a node and its words. With `makes` it makes its files.
+func (a *Agent) words(order wire.Order, makes bool) ([]string, error) {
 	its := append([]string(nil), a.config.Program(order.Node.Kind)...)
 	its = append(its, order.Node.Kind)
 	for at, name := range names.Kinds[order.Node.Kind] {
@@ -240,8 +240,11 @@ func (a *Agent) words(order wire.Order) ([]string, error) {
 	if order.Node.HasFiles() {
 		its = append(its, "--dir", filepath.Join(a.room, "files"))
 	}
+	if makes {
+		its = append(its, "--make")
+	}
 	if kind := order.Node.Kind; kind == "cell" || kind == "log" {
-		its = append(its, "--room", fmt.Sprint(a.config.FileRoom))
+		its = append(its, "--room", fmt.Sprint(a.config.FileRoom), "--cluster", a.config.FileCluster())
 	}
 	if kind := order.Node.Kind; kind == "log" || kind == "sequencer" {
 		return its, nil

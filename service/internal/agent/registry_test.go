@@ -2,6 +2,8 @@ package agent
 
 import (
 	"fmt"
+	"os"
+	"path/filepath"
 	"strings"
 	"testing"
 
@@ -55,11 +57,37 @@ func TestFirstNodes(t *testing.T) {
 	}
 }
 
+// Cells and logs are told whose their files are; nodes with files are told to make them where they are to.
+func TestWordsOfFiles(t *testing.T) {
+	a := &Agent{config: &config.Config{Node: []string{"node"}, FileRoom: 65536, Cluster: "a-cluster-of-seve"}, room: t.TempDir()}
+	if err := os.Mkdir(filepath.Join(a.room, "configs"), 0o755); err != nil {
+		t.Fatal(err)
+	}
+	ours := fmt.Sprintf("--dir %s/files", a.room)
+	for _, row := range []struct {
+		kind       string
+		makes      bool
+		its, lacks string
+	}{
+		{"cell", true, ours + " --make --room 65536 --cluster 86da2ca5dba15bd2", "nothing"},
+		{"log", false, ours + " --room 65536 --cluster 86da2ca5dba15bd2", "--make"},
+		{"storage", true, ours + " --make", "--cluster"},
+		{"storage", false, ours, "--make"},
+		{"sequencer", false, "--last 0", "--dir"},
+	} {
+		its, err := a.words(wire.Order{Node: names.Node{Kind: row.kind, First: 1}}, row.makes)
+		found := strings.Join(its, " ")
+		if err != nil || !strings.Contains(found, row.its) || strings.Contains(found, row.lacks) {
+			t.Errorf("%s: %s, wanted %s, without %s: %v", row.kind, found, row.its, row.lacks, err)
+		}
+	}
+}
+
 // A node judges no stamp: whatever the bus takes is not too far ahead of it.
 func TestMostAhead(t *testing.T) {
 	a := &Agent{config: &config.Config{Node: []string{"fdbrec", "node"}}}
 	order := wire.Order{Node: names.Node{Kind: "sequencer", First: 257}, Last: 1}
-	its, err := a.words(order)
+	its, err := a.words(order, false)
 	wanted := "fdbrec node sequencer --epoch 257 --last 1 --most-ahead 1099511627776"
 	if found := strings.Join(its, " "); err != nil || found != wanted {
 		t.Errorf("%s and not %s: %v", found, wanted, err)

@@ -17,6 +17,8 @@ type storage struct {
 	asked   time.Time // when it was last asked what it wants
 	asking  bool      // and whether it has not answered that
 	eager   bool      // it wants more at once: there is more, or a read waits
+	floor   uint64    // as it was when it was last asked
+	raised  time.Time // and when that last changed
 	popped  map[names.Node]uint64
 	popping map[names.Node]time.Time
 	pops    popStamps
@@ -34,6 +36,7 @@ type read struct {
 const (
 	idle     = 500 * time.Millisecond // between two pulls if nothing was committed
 	trailing = 100 * time.Millisecond // if something was: what came meanwhile is one answer, and one sync
+	popsOn   = 4 * popPause           // so long it goes on after its floor rose: each of its logs is to be popped
 	behind   = 25 * time.Millisecond  // if the epoch is a newer one
 	awaited  = 5 * time.Millisecond   // if a read waits for more, and nothing came of the last pull
 	popPause = 400 * time.Millisecond // between two pops at one log
@@ -50,9 +53,12 @@ func (s *storage) pull(now time.Time) {
 		n.mutex.Unlock()
 		return
 	}
+	if its.Floor != s.floor {
+		s.floor, s.raised = its.Floor, now
+	}
 	pause := idle
 	switch isBehind := its.Epoch < newest.Epoch; {
-	case !isBehind && its.Version >= moved && len(s.reads) == 0:
+	case !isBehind && its.Version >= moved && len(s.reads) == 0 && now.Sub(s.raised) > popsOn:
 	case s.eager:
 		pause = 0
 	case len(s.reads) > 0:

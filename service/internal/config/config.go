@@ -3,6 +3,8 @@
 package config
 
 import (
+	"crypto/sha256"
+	"encoding/hex"
 	"os"
 	"time"
 )
@@ -60,7 +62,7 @@ type Config struct {
 	JournalFsync  bool
 	JournalRotate int64
 
-	FileRoom int64 // how many bytes the file of a cell or a log has room for
+	FileRoom int64 // how many bytes each of the two files of a cell or a log has room for
 
 	Machines []*Machine
 	Keepers  []*Keeper
@@ -169,6 +171,23 @@ func (c *Config) Program(kind string) []string {
 	return c.Node
 }
 
+// FileCluster is the cluster's name as the files of cells and logs have it. They have 16 bytes for it: of a longer one they
+// have a part of its hash.
+func (c *Config) FileCluster() string {
+	if len(c.Cluster) <= 16 {
+		return c.Cluster
+	}
+	its := sha256.Sum256([]byte(c.Cluster))
+	return hex.EncodeToString(its[:8])
+}
+
 // BatchBytes is how many bytes the JSON of one batch may have. An answer to a peek has up to 100 batches, and is one
-// message of the broker; the half is for what stands around them.
-func (c *Config) BatchBytes() int { return int(c.MaxPayload / 200) }
+// message of the broker; the half is for what stands around them. What a recovery copies into new logs is two batches a
+// proxy at most, which take half as many bytes there as in JSON: so it takes a quarter of their room.
+func (c *Config) BatchBytes() int {
+	most := c.MaxPayload / 200
+	if its := c.FileRoom / int64(4*c.Proxies+1); its < most && c.FileRoom > 0 {
+		most = its
+	}
+	return int(most)
+}

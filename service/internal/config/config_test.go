@@ -118,6 +118,29 @@ func TestRefusals(t *testing.T) {
 	}
 }
 
+// A name of 16 bytes is in files as it is; of a longer one they have a hash, which another one does not have.
+func TestFileCluster(t *testing.T) {
+	for name, wanted := range map[string]string{"five": "five", "a-name-of-sixtee": "a-name-of-sixtee",
+		"a-name-of-sixteen": "62b70e1bc6929cad", "a-name-of-sixteem": "47ab7ff1a196dfe0"} {
+		if its := (&Config{Cluster: name}).FileCluster(); its != wanted || len(its) > 16 {
+			t.Errorf("%s: %s and not %s", name, its, wanted)
+		}
+	}
+}
+
+// Two batches of each proxy, at half of their bytes, take a quarter of a log's room at most.
+func TestBatchBytes(t *testing.T) {
+	for _, row := range []struct{ payload, room, proxies, wanted int }{
+		{64 << 20, 256 << 20, 2, 335544}, {64 << 20, 256 << 20, 16, 335544}, {8 << 20, 256 << 20, 16, 41943},
+		{64 << 20, 1 << 20, 2, 116508}, {64 << 20, 1 << 20, 16, 16131},
+	} {
+		c := &Config{MaxPayload: int64(row.payload), FileRoom: int64(row.room), Proxies: uint64(row.proxies)}
+		if its := c.BatchBytes(); its != row.wanted {
+			t.Errorf("%+v: %d", row, its)
+		}
+	}
+}
+
 // However a file is cut off it is read or refused, and nothing panics.
 func TestCut(t *testing.T) {
 	for at := range good {

@@ -174,7 +174,7 @@ func (c *Config) journalFields() []field {
 }
 
 func (c *Config) fileFields() []field {
-	return []field{{"room", "a number of bytes from 1048576 to 1099511627776", false, size(&c.FileRoom, 1<<20, 1<<40)}}
+	return []field{{"room", "a number of bytes from 65536 to 1099511627776", false, size(&c.FileRoom, 1<<16, 1<<40)}}
 }
 
 func (c *Config) programFields() []field {

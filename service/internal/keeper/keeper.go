@@ -39,7 +39,6 @@ type Keeper struct {
 	opened   time.Time // when this keeper heard of the newest epoch
 	since    map[string]time.Time
 	open     map[string]openBatch
-	seeded   map[string]int64 // how many bytes the file of each log of the newest epoch had when it was first seen
 	trying   *recovery
 	failed   int
 	refused  int                  // so many, one after another, were given up because a node was refused or the recoverer gone
@@ -85,7 +84,6 @@ func New(c *config.Config, its *config.Keeper, log *report.Log) (*Keeper, error)
 	now := time.Now()
 	k := &Keeper{config: c, its: its, log: log, born: now, calm: now, machines: map[string]*machine{},
 		keepers: map[uint64]time.Time{}, since: map[string]time.Time{}, open: map[string]openBatch{}, dropped: map[string]time.Time{},
-		seeded:   map[string]int64{},
 		refusing: map[string]time.Time{}}
 	if err := k.enter(); err != nil {
 		return nil, err
@@ -285,7 +283,6 @@ func (k *Keeper) learn(its *wire.Epoch) {
 	}
 	now := time.Now()
 	k.newest, k.opened, k.since, k.open, k.why = its, now, map[string]time.Time{}, map[string]openBatch{}, ""
-	k.seeded = map[string]int64{}
 	if round := its.Epoch >> 8; round > k.seen {
 		k.seen = round
 	}

@@ -18,11 +18,11 @@ import (
 func of(room string) *Keeper {
 	its := &config.Keeper{Number: 3, Room: room}
 	c := &config.Config{Cluster: "c", Logs: 2, Degree: 2, Proxies: 1, Alive: 100 * time.Millisecond, Suspect: time.Second,
-		Progress: 2 * time.Second, Start: 10 * time.Second, Recovery: 10 * time.Second, FileRoom: 4000, Keepers: []*config.Keeper{its},
+		Progress: 2 * time.Second, Start: 10 * time.Second, Recovery: 10 * time.Second, Keepers: []*config.Keeper{its},
 		Machines: []*config.Machine{{Name: "m0"}, {Name: "m1"}}}
 	return &Keeper{config: c, its: its, log: report.New("test", 9), machines: map[string]*machine{},
 		keepers: map[uint64]time.Time{}, since: map[string]time.Time{}, open: map[string]openBatch{}, dropped: map[string]time.Time{},
-		seeded: map[string]int64{}, refusing: map[string]time.Time{}}
+		refusing: map[string]time.Time{}}
 }
 
 // A round that was kept is known to the keeper's next run; without its file there is no keeper.
@@ -90,27 +90,6 @@ func world(now time.Time) *Keeper {
 	return k
 }
 
-// What a log of a young epoch has it was seeded with, most of it, and the next one's would be too.
-func TestFilledByItsSeed(t *testing.T) {
-	now := time.Now()
-	k := world(now)
-	found, _ := k.viewOf(mustParse("log-257-1"))
-	k.opened = now.Add(-leastAge)
-	for bytes := int64(2500); bytes <= 3500; bytes += 500 {
-		found.Bytes = bytes
-		if why := k.suspect(now); why != "" {
-			t.Error(bytes, why)
-		}
-	}
-	if why := k.suspect(now.Add(time.Millisecond)); !strings.HasPrefix(why, "log 257 1 has a file of 3500 bytes") {
-		t.Errorf("an old epoch: %q", why)
-	}
-	k.opened, found.Bytes = now, 3501
-	if why := k.suspect(now.Add(2 * time.Millisecond)); !strings.HasPrefix(why, "log 257 1 has a file of 3501 bytes") {
-		t.Errorf("it grew by a quarter: %q", why)
-	}
-}
-
 // Each row spoils the world, and says for how long it is borne: just before nothing is suspected, just after it is.
 func TestSuspicion(t *testing.T) {
 	now := time.Now()
@@ -126,8 +105,7 @@ func TestSuspicion(t *testing.T) {
 	}{
 		{"gone", func(k *Keeper) { node(k, "sequencer-257").State = "gone" }, 0, "sequencer 257 is gone"},
 		{"ended", func(k *Keeper) { node(k, "proxy-257-0").State = "ended" }, 0, "proxy 257 0 is ended"},
-		{"full", func(k *Keeper) { node(k, "log-257-1").Full = true }, 0, "log 257 1 has a file that is full"},
-		{"filled", func(k *Keeper) { node(k, "log-257-1").Bytes = 3001 }, 0, "log 257 1 has a file of 3001 bytes, with room for 4000"},
+		{"full", func(k *Keeper) { node(k, "log-257-1").Full = true }, time.Second, "log 257 1 has files that are full"},
 		{"failed", func(k *Keeper) { node(k, "log-257-1").State = "failed" }, time.Second, "log 257 1 is failed"},
 		{"starting", func(k *Keeper) { node(k, "log-257-0").State = "starting" }, 10 * time.Second, "log 257 0 is starting"},
 		{"missing", func(k *Keeper) { delete(k.machines["m1"].alive.Nodes, "log-257-1") }, time.Second, "log 257 1 is on no machine"},
@@ -159,6 +137,24 @@ func TestSuspicion(t *testing.T) {
 		if why := k.suspect(now.Add(row.borne + time.Millisecond)); !strings.HasPrefix(why, row.why) {
 			t.Errorf("%s, after %v: %q", row.name, row.borne, why)
 		}
+	}
+}
+
+// A log that takes a push in time was not full, and how many bytes its files have does not matter.
+func TestFullForAWhile(t *testing.T) {
+	now := time.Now()
+	k := world(now)
+	found, _ := k.viewOf(mustParse("log-257-1"))
+	found.Bytes = 1 << 50
+	for at := 0; at < 9; at++ {
+		found.Full = at%2 == 0
+		for _, each := range k.machines {
+			each.heard = now
+		}
+		if why := k.suspect(now); why != "" {
+			t.Errorf("after %d times: %q", at, why)
+		}
+		now = now.Add(900 * time.Millisecond)
 	}
 }
 

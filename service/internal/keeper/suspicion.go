@@ -12,11 +12,6 @@ import (
 // mostLetting is how many nodes are ended at once: each costs its agent some syncs, and orders that matter wait behind.
 const mostLetting = 16
 
-// A log's file is let go with its generation: so where one has come beyond three quarters of its room, the epoch is ended,
-// while it can still be locked, which takes room too. But what a storage server does not have yet is copied into the next
-// logs. So it has to have grown by a quarter since it was first seen, or so much time has to have passed.
-const leastAge = 30 * time.Second
-
 // turn looks at all that is known, and does what is due.
 func (k *Keeper) turn(now time.Time) {
 	if k.bus.Linked() == 0 {
@@ -119,26 +114,14 @@ func (k *Keeper) fault(name names.Node, now time.Time) (why string, borne time.D
 		return "is " + its.State + ": " + its.Why, k.config.Suspect
 	}
 	if its.Full {
-		return "has a file that is full", 0
-	}
-	if name.Kind == "log" && k.isFilling(name, its.Bytes, now) {
-		return fmt.Sprintf("has a file of %d bytes, with room for %d", its.Bytes, k.config.FileRoom), 0
+		// (a storage server that is there pops soon, and then the log has room again. One that is away has the next epoch
+		// begin: what is known to be committed stays in these logs, which can be locked, and are let go later)
+		return "has files that are full", k.config.Suspect
 	}
 	if time.Duration(its.Waiting)*time.Millisecond > k.config.Suspect {
 		return "does not answer", k.config.Suspect / 2
 	}
 	return k.faultOfBatch(name, its, now), 0
-}
-
-// isFilling says whether a log's file is filling up, and not only by what the log was seeded with.
-func (k *Keeper) isFilling(name names.Node, bytes int64, now time.Time) bool {
-	first, is := k.seeded[name.Token()]
-	if !is {
-		first = bytes
-		k.seeded[name.Token()] = first
-	}
-	quarter := k.config.FileRoom / 4
-	return bytes > 3*quarter && (bytes-first > quarter || now.Sub(k.opened) > leastAge)
 }
 
 // faultOfBatch sees whether a proxy's batch is open for longer than is borne, by this keeper's own clock.

@@ -9,6 +9,7 @@ import (
 	"os"
 	"os/exec"
 	"runtime"
+	"strings"
 	"sync"
 	"syscall"
 	"time"
@@ -24,6 +25,8 @@ type Process struct {
 	input   *os.File
 	ended   chan struct{}
 	status  error
+	said    string // the path of what it writes on standard error
+	before  int64  // how many bytes were there before it
 }
 
 // starter starts all programs from one thread that never ends: the kernel kills them when that thread does, so that no
@@ -64,6 +67,10 @@ func Start(words []string, lockPath, saidPath string, patience time.Duration) (*
 		return nil, err
 	}
 	defer func() { _ = said.Close() }()
+	before, err := said.Seek(0, io.SeekEnd)
+	if err != nil {
+		return nil, err
+	}
 	theirs, mine, err := os.Pipe()
 	if err != nil {
 		return nil, err
@@ -73,7 +80,7 @@ func Start(words []string, lockPath, saidPath string, patience time.Duration) (*
 		_, _ = theirs.Close(), mine.Close()
 		return nil, err
 	}
-	p := &Process{Answers: make(chan []byte, 64), input: mine, ended: make(chan struct{})}
+	p := &Process{Answers: make(chan []byte, 64), input: mine, ended: make(chan struct{}), said: saidPath, before: before}
 	p.command = exec.Command(words[0], words[1:]...)
 	p.command.Stdin, p.command.Stdout, p.command.Stderr = theirs, told, said
 	p.command.ExtraFiles = []*os.File{lock}
@@ -152,16 +159,25 @@ func (p *Process) Status() string {
 	return p.status.Error()
 }
 
-// Said are the last bytes that it wrote on standard error.
-func Said(path string) string {
-	file, err := os.Open(path)
+// Code is the status with which it ended, once Answers is closed; -1 if it was killed.
+func (p *Process) Code() int {
+	<-p.ended
+	return p.command.ProcessState.ExitCode()
+}
+
+// Said is the last line that it wrote on standard error, of its last 400 bytes. What an earlier process of the node wrote
+// is none of it.
+func (p *Process) Said() string {
+	file, err := os.Open(p.said)
 	if err != nil {
 		return ""
 	}
 	defer func() { _ = file.Close() }()
-	if info, err := file.Stat(); err == nil && info.Size() > 400 {
-		_, _ = file.Seek(-400, io.SeekEnd)
+	from := p.before
+	if info, err := file.Stat(); err == nil && info.Size()-400 > from {
+		from = info.Size() - 400
 	}
-	data, _ := io.ReadAll(io.LimitReader(file, 400))
-	return string(data)
+	data, _ := io.ReadAll(io.NewSectionReader(file, from, 400))
+	lines := strings.Split(strings.TrimSpace(string(data)), "\n")
+	return lines[len(lines)-1]
 }

@@ -235,9 +235,9 @@ type NodeView struct {
 	Lines    int             `json:"lines"`          // lines that wait
 	Open     uint64          `json:"open,omitempty"` // a proxy's open batch, by its number
 	OpenFor  int64           `json:"open_ms,omitempty"`
-	Full     bool            `json:"full,omitempty"`   // its file took no more
+	Full     bool            `json:"full,omitempty"`   // a log's files have no room for a push
 	Slow     float64         `json:"p99_ms"`           // the 99th percentile of its answers
-	Bytes    int64           `json:"bytes,omitempty"`  // of its files
+	Bytes    int64           `json:"bytes,omitempty"`  // of its files, which never shrink
 	Errors   uint64          `json:"errors,omitempty"` // how many lines it refused
 	Starts   uint64          `json:"starts"`
 	Recovery *Recovery       `json:"recovery,omitempty"`
