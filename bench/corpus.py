@@ -52,7 +52,7 @@ def corpus(made=()):
 def scenarios():
     """Each scenario, as its rows with the names in them put in: the word of each, what is given with it and what is
     wanted, both as the values that they are."""
-    folder = os.path.join(TOP, "crates", "test_scenarios", "data")
+    folder = os.path.join(TOP, "scenarios")
     for file in sorted(os.listdir(folder)):
         if file != "README.md":
             before, *each = re.split(r"^## .*$", bytes_of(os.path.join(folder, file)).decode(), flags=re.M)

@@ -146,22 +146,24 @@ def of_player(ended, first):
     """A scenario that does not hold is told as such; one without memory for itself ends the program."""
     if (ended.status, ended.said) == (first.status, first.said):
         return "same"
-    is_end = ended.status == 1 and not ended.said and re.search(rb"out of memory|AllocError|Memory", ended.complained)
+    is_front = ended.status == 1 and first.said.startswith(ended.said)
+    is_end = is_front and re.search(rb"out of memory|AllocError|Memory", ended.complained)
     return "wanted" if is_end else f"status {ended.status}"
 
 
-MISSED = re.compile(rb"^[\w.]+:\d+: told (\d+)\n    wanted (\d+)\n", re.M)
+MISSED = re.compile(rb"^! a row without memory changed something\n(?:! left\n)*", re.M)
 
 
 def of_housed(ended, first):
     """A node with its journal may have entered an ask for whose answer there was no memory. The player, which looks how
-    many entries there are, then finds one more than before, and leaves that scenario."""
+    many entries there are, then finds another number than before, and leaves that scenario."""
     missed = MISSED.search(ended.said)
-    if ended.status != 1 or not missed or int(missed[1]) != int(missed[2]) + 1:
+    if ended.status != 0 or not missed:
         return of_player(ended, first)
-    before, behind = ended.said[: missed.start()].splitlines(), ended.said[missed.end() :].splitlines()
-    lines = first.said.splitlines()
-    is_right = lines[: len(before)] == before and lines[len(before) + 1 :] == behind
+    before, left, behind = ended.said[: missed.start()], missed[0].count(b"\n"), ended.said[missed.end() :]
+    lines = first.said.splitlines(keepends=True)
+    many = before.count(b"\n")
+    is_right = b"".join(lines[:many]) == before and b"".join(lines[many + left :]) == behind
     return "wanted" if is_right else "another scenario does not hold"
 
 

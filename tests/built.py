@@ -12,10 +12,11 @@ import time
 
 sys.dont_write_bytecode = True
 TOP = os.path.dirname(os.path.dirname(os.path.realpath(__file__)))
-sys.path.insert(0, f"{TOP}/tools")
+sys.path[:0] = [f"{TOP}/tools", f"{TOP}/python"]
 
 from launcher import archive as archives  # noqa: E402
 from launcher import unproved  # noqa: E402
+from tests import play_scenarios  # noqa: E402
 
 
 def skip(why):
@@ -187,15 +188,12 @@ class Checks:
 
 
 def name_changed_rows(checks, player, text, changes):
-    """That a player of scenarios names a row in which something else is wanted. Each change of a file's text is what it
-    is, a pattern, and what stands in place of what this finds first."""
-    with tempfile.TemporaryDirectory() as room:
-        for what, pattern, change in share(changes):
-            changed, count = re.subn(pattern, change, text, count=1, flags=re.M)
-            with open(f"{room}/changed.md", "w", encoding="utf-8") as it:
-                it.write(changed)
-            ran = subprocess.run([player], cwd=room, stdin=subprocess.DEVNULL, capture_output=True, text=True)
-            at = next((n for n, (a, b) in enumerate(zip(text.split("\n"), changed.split("\n")), 1) if a != b), 0)
-            told = [int(it) for it in re.findall(r"^changed\.md:(\d+): told", ran.stdout, re.M)]
-            is_so = count == 1 and ran.returncode == 1 and len(told) == 1 and 0 <= at - told[0] < 12
-            checks.check(is_so, what, "changed in line", at, "is told at", told, ran.returncode)
+    """That a row of scenarios in which something else is wanted is named. Each change of a file's text is what it is, a
+    pattern, and what stands in place of what this finds first."""
+    for what, pattern, change in share(changes):
+        changed, count = re.subn(pattern, change, text, count=1, flags=re.M)
+        lines, _, _ = play_scenarios.play_text(player, "changed.md", changed)
+        at = next((n for n, (a, b) in enumerate(zip(text.split("\n"), changed.split("\n")), 1) if a != b), 0)
+        told = [int(it.split(":")[1]) for it in lines if play_scenarios.is_fault(it)]
+        is_so = count == 1 and len(told) == 1 and 0 <= at - told[0] < 12
+        checks.check(is_so, what, "changed in line", at, "is told at", told)

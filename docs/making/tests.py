@@ -1,22 +1,24 @@
 """The lists of tests (docs/tables --tests): the scenarios, the crates of tests and the programs of tests/."""
 import os
 import re
+import sys
 
 from making.sources import TOP, files_of, read, wrapped
 
-SCENARIOS = "crates/test_scenarios"
+sys.path.insert(0, f"{TOP}/python")
+from tests import scenes  # noqa: E402
+
+SCENARIOS = "scenarios"
 
 
 def scenarios():
     """The files of scenarios, by subject, with how many scenarios and rows they have."""
     counts, groups = {}, {}
-    for line in read(f"{SCENARIOS}/stdout").split("\n"):
-        if found := re.fullmatch(r"(\S+): .*: (\d+) rows?", line):
-            count = counts.setdefault(found[1], [0, 0])
-            count[0] += 1
-            count[1] += int(found[2])
+    for path in scenes.files():
+        rows = [len(it.rows) - 1 for it in scenes.read(path)]
+        counts[os.path.basename(path)] = [len(rows), sum(rows)]
     for file, (count, rows) in counts.items():
-        title = read(f"{SCENARIOS}/data/{file}").split("\n")[0].removeprefix("# ")
+        title = read(f"{SCENARIOS}/{file}").split("\n")[0].removeprefix("# ")
         about = re.split(r": |, from seeds", title)[0]
         group = groups.setdefault(about, [[], 0, 0])
         group[0].append(file)
@@ -68,7 +70,7 @@ def tests(crates, named):
         for crate in named:
             yield from names_of(crate)
         return
-    yield "Scenarios (crates/test_scenarios/data), which the program test_scenarios plays. A row is one thing asked."
+    yield "Scenarios (scenarios/), which tests/scenarios and tests/bindings play. A row is one thing asked."
     yield from scenarios()
     yield from ["", "Crates of tests, each test by its name:"]
     for crate in crates.names:

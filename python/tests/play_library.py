@@ -1,74 +1,27 @@
 #!/usr/bin/env python3
-"""play_library.py [FILE..]: plays the scenarios of the machines that fdbrec.library wraps, and compares every tell.
+"""play_library.py [--changed] [FILE..]: plays the scenarios of the machines that fdbrec.library wraps.
 
-The files are those of scenarios/, whose README.md says what a row is; none named: all. A row that
-the library does not have is left out if it changes nothing, as `made`; else the scenario is played up to it. The last
-line says how many scenarios and rows were played; the status is 1 where something differs, or where nothing was played.
+Every tell is compared.
+
+The files are those of scenarios/, whose README.md says what a row is; none named: all. A row that the library does not
+have is left out if it changes nothing, as `made`; else the scenario is played up to it (scenes.py has both lists). The
+last line says how many scenarios and rows were played; the status is 1 where something differs, and where these are not
+as many as the texts have. With --changed another value is wanted in a row of each kind, and must be told.
 """
 
 from __future__ import annotations
 
-import glob
 import json
 import os
-import re
 import sys
 
 sys.path.insert(0, os.path.dirname(os.path.dirname(os.path.realpath(__file__))))
 
 from fdbrec import library
+from tests import scenes
 
-SCENARIOS = f"{os.path.dirname(os.path.dirname(os.path.dirname(os.path.realpath(__file__))))}/scenarios"
 # names of refusals by fault: a scenario tells which one, the library that it is one
 REFUSALS = {"TwoOpen", "Over", "Older", "Stranger", "BelowFloor", "NotMyGeneration", "Hole", "NotAfter", "AboveApplied"}
-# rows that change nothing, and that the library does not have of each machine
-LEFT_OUT = {"made", "generation", "generations", "copied", "take_back", "failed", "state", "rows", "below", "kept"}
-
-
-class NotHere(Exception):
-    """The library has no such machine, or no such call."""
-
-
-# ---- the files
-
-
-def scenarios(path):
-    """The scenarios of a file: (name, [(line, word, given, wanted), ..]), given and wanted as texts."""
-    names, found, row = {}, [], None
-    with open(path, encoding="utf-8") as it:
-        lines = it.read().split("\n")
-    for number, line in enumerate([*lines, ""], 1):
-        if row and re.match(r" {5,}\S", line):
-            row[1] += " " + line.strip()
-            continue
-        if row:
-            take(row, names, found)
-            row = None
-        if line.startswith("## "):
-            found.append((line[3:], []))
-        elif line.startswith("    "):
-            row = [number, line.strip()]
-    return found
-
-
-def take(row, names, found):
-    number, text = row
-    if not found and (let := re.match(r"let (\w+) = (.*)", text, re.S)):
-        names[let[1]] = filled(let[2].strip(), names)
-        return
-    left, _, wanted = filled(text, names).partition(" -> ") if " -> " in text else (filled(text, names), "", "")
-    word, _, given = left.partition(" ")
-    found[-1][1].append((number, word, given.strip(), wanted.strip()))
-
-
-def filled(text, names):
-    return re.sub(r"\$([a-z_0-9]+)", lambda it: value_of(it[1], names), text)
-
-
-def value_of(word, names):
-    """The text of the longest name with which a word begins, and what is left of the word."""
-    name = next(word[:at] for at in range(len(word), 0, -1) if word[:at] in names)
-    return names[name] + word[len(name) :]
 
 
 # ---- machines
@@ -102,9 +55,7 @@ def made(word, it):
         return library.Recoverer(it["ballot"], it["coordinators"], keys, shape)
     if word == "storage":
         return library.Storage(it["tag"], it["state"])
-    if word == "store":
-        return library.Store()
-    raise NotHere
+    return library.Store()
 
 
 KINDS = {library.Cell: "cell", library.Log: "log", library.Sequencer: "seq"}
@@ -112,10 +63,7 @@ KINDS = {library.Cell: "cell", library.Log: "log", library.Sequencer: "seq"}
 
 def told(machine, word, it):
     """What a machine tells in a row, in the form of a scenario."""
-    call = CALLS.get((type(machine).__name__.lower(), word))
-    if call is None:
-        raise NotHere
-    return call(machine, it)
+    return CALLS[type(machine).__name__.lower(), word](machine, it)
 
 
 def ask(machine, it):
@@ -157,6 +105,13 @@ def get(machine, it):
     return None if value is None else value.hex()
 
 
+def read(machine, it):
+    begin, end = it["shard"]["begin"], it["shard"]["end"]
+    shard = (bytes.fromhex(begin), None if end is None else bytes.fromhex(end))
+    value = machine.read(shard, bytes.fromhex(it["key"]), it["version"])
+    return None if value is None else value.hex()
+
+
 CALLS = {
     ("cell", "ask"): ask,
     ("log", "ask"): ask,
@@ -170,6 +125,7 @@ CALLS = {
     ("storage", "hear"): follow,
     ("storage", "next"): lambda machine, _: machine.next()[0][1],
     ("storage", "position"): position,
+    ("storage", "read"): read,
     ("storage", "rows"): lambda machine, _: state(machine, None)["rows"],
     ("store", "apply"): lambda machine, it: machine.apply(it["version"], batch_of(it["batch"])),
     ("store", "undo"): lambda machine, it: machine.undo_to(it),
@@ -178,49 +134,62 @@ CALLS = {
 } | {(kind, "state"): state for kind in ("cell", "log", "sequencer", "proxy", "recoverer")}
 
 
-def play(rows):
-    """Plays a scenario: how many rows were played, whether the last one came, and (line, told, wanted) of the first
-    that differs."""
-    _, word, given, _ = rows[0]
-    try:
-        machine = made(word, json.loads(given or "null"))
-    except NotHere:
-        return 0, False, None
-    count = 0
-    with machine:
-        for line, word, given, wanted in rows[1:]:
+def play(scenario):
+    """Plays a scenario: how many rows were played, and (line, told, wanted) of the first that differs."""
+    rows, count = scenes.of_library(scenario), 0
+    if not rows:
+        return 0, None
+    with made(scenario.about, scenes.value(scenario.rows[0].given)) as machine:
+        for row in rows:
             try:
-                said = told(machine, word, json.loads(given or "null"))
-            except NotHere:
-                if word in LEFT_OUT:
-                    continue
-                return count, False, None
+                said = told(machine, row.word, scenes.value(row.given))
             except library.Refused:
                 said = "refused"
             except library.Fault as fault:
-                said = repr(fault)
-            want = json.loads(wanted)
-            if said != ("refused" if isinstance(want, str) and want in REFUSALS else want):
-                return count, True, (line, said, want)
+                said = type(fault).__name__
+            want = scenes.value(row.wanted)
+            if json.dumps(said, sort_keys=True) != json.dumps("refused" if refuses(want) else want, sort_keys=True):
+                return count, (row.line, said, want)
             count += 1
-    return count, True, None
+    return count, None
 
 
-def main(paths):
-    scenarios_played = rows_played = broken_off = bad = 0
-    for path in paths or sorted(set(glob.glob(f"{SCENARIOS}/*.md")) - {f"{SCENARIOS}/README.md"}):
-        for name, rows in scenarios(path):
-            played, is_whole, differs = play(rows) if rows else (0, True, None)
-            rows_played += played
-            scenarios_played += played > 0
-            broken_off += played > 0 and not is_whole
+def tell_changes(paths):
+    """Of each kind of row one in which something else is wanted is told, in its line."""
+    kinds = scenes.kinds(scenes.of_library, paths)
+    bad = 0
+    for name, scenario, row in kinds:
+        _, differs = play(scenes.changed(scenario, row))
+        if differs is None or differs[0] != row.line:
+            bad += 1
+            print(f"{name}:{row.line}: {row.word} of {scenario.about}: another value that is wanted is not told")
+    print(f"{len(kinds)} kinds of rows, changed: {bad} not told")
+    return 1 if bad or not kinds else 0
+
+
+def refuses(want):
+    return isinstance(want, str) and want in REFUSALS
+
+
+def main(words):
+    paths = [it for it in words if it != "--changed"]
+    if "--changed" in words:
+        return tell_changes(paths)
+    played, bad = scenes.Count(), 0
+    for path in paths or scenes.files():
+        for scenario in scenes.read(path):
+            count, differs = play(scenario)
+            played.add(count)
             if differs:
                 bad += 1
                 line, said, wanted = differs
-                print(f"{os.path.basename(path)}:{line}: {name}: told {json.dumps(said)}")
+                print(f"{os.path.basename(path)}:{line}: {scenario.name}: told {json.dumps(said)}")
                 print(f"    wanted {json.dumps(wanted)}")
-    print(f"{scenarios_played} scenarios, {rows_played} rows played, {broken_off} broken off; {bad} differ")
-    return 1 if bad or not rows_played else 0
+    _, _, texts, _, _ = scenes.counts(paths)
+    if played != texts and not bad:
+        print(f"the texts have {texts} that the library has calls for")
+    print(f"{played} played; {bad} differ")
+    return 1 if bad or played != texts or not played.rows else 0
 
 
 if __name__ == "__main__":

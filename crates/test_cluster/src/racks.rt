@@ -11,7 +11,7 @@ use fr_runtime::Rack;
 use fr_runtime_storm::{Devices, FileRack, MemoryDevices};
 use fr_undo::StoreFault;
 use std::alloc::Global;
-use test_rows::FailsOnce;
+use test_store::FailsOnce;
 
 /// A cell in memory which, if it is frail, fails at each write of ballot 513, that leaves nothing.
 #[derive(Drop)]

@@ -1,10 +1,13 @@
 //! Events of a world, by the words of rows.
+use crate::asks::{RowAsk, read_as};
+use crate::forms::read_shape;
 use crate::found;
+use crate::telling::RowTold;
+use crate::wrong::{NO_FORM, Wrong};
 use fr_ask::{Ask, Tell};
 use fr_base::{LogId, NodeId};
 use fr_world::{Config, ConfigFault, Event, World};
 use serde_json::Value;
-use test_rows::{NO_FORM, RowAsk, RowTold, Wrong, read_as, read_shape};
 
 /// What a world starts from.
 pub(crate) fn read_config(row: &mut RowAsk) -> Result<Config, Wrong> {

@@ -1,54 +1,47 @@
 //! Worlds: all nodes of a run, and what happens to them, event by event.
+use crate::asks::RowAsk;
 use crate::events::{read_config, read_event, was_sent, was_told};
+use crate::forms::write_last_state;
+use crate::lines::Subject;
+use crate::telling::{RowTold, named, told, write};
+use crate::wrong::{Wrong, said};
 use fr_base::{Bytes, Memory};
+use fr_forms::Object;
 use fr_storage::StorageFault;
 use fr_world::{Answer, Event, NotEnabled, World};
 use serde_json::Value;
 use std::alloc::Global;
-use test_rows::{
-    Object, Plays, RowAsk, RowTold, Scene, Wrong, named, said, told, write, write_last_state,
-};
-
-/// The player of worlds.
-struct Worlds;
 
 /// A world, and all events that were to happen in it.
 #[derive(Drop)]
-struct Played {
+pub(crate) struct Played {
     world: World,
     events: Vec<Event>,
 }
 
-/// Plays a scenario of a world; false if it is about something else.
-pub(crate) fn play(scene: Scene, at: &mut usize) -> Result<bool, Wrong> {
-    match scene.word() {
-        "world" => scene.seen_by("turns").play::<Played, Worlds>(&Worlds, at),
-        _ => Ok(false),
-    }
+/// A world that starts, in which nothing happened.
+pub(crate) fn read_world(row: &mut RowAsk) -> Result<Played, Wrong> {
+    let config = read_config(row)?;
+    Ok(Played {
+        world: World::start(row.alloc, config)?,
+        events: Vec::new(row.alloc),
+    })
 }
 
-impl Plays<Played> for Worlds {
-    fn make(&self, row: &mut RowAsk) -> Result<Played, Wrong> {
-        let config = read_config(row)?;
-        Ok(Played {
-            world: World::start(row.alloc, config)?,
-            events: Vec::new(row.alloc),
-        })
-    }
-
-    fn play_row(&self, played: &mut Played, row: &mut RowAsk) -> RowTold {
+impl Subject for Played {
+    fn play_row(&mut self, row: &mut RowAsk) -> RowTold {
         match row.word {
-            "state" => state(&played.world, row),
-            "there" => Ok(Value::from(played.world.is_there(row.read("node")?))),
-            "gone" => Ok(Value::from(played.world.is_gone(row.read("node")?))),
-            "sent" => was_sent(&played.world, row),
-            "told" => was_told(&played.world, row),
-            "turns" => Ok(Value::from(played.world.turns().len())),
-            "read" => read(&mut played.world, row),
-            "replay" => replay(row.alloc, played),
+            "state" => state(&self.world, row),
+            "there" => Ok(Value::from(self.world.is_there(row.read("node")?))),
+            "gone" => Ok(Value::from(self.world.is_gone(row.read("node")?))),
+            "sent" => was_sent(&self.world, row),
+            "told" => was_told(&self.world, row),
+            "turns" => Ok(Value::from(self.world.turns().len())),
+            "read" => read(&mut self.world, row),
+            "replay" => replay(row.alloc, self),
             _ => {
-                let event = read_event(&played.world, row)?;
-                take(row.alloc, played, event)
+                let event = read_event(&self.world, row)?;
+                take(row.alloc, self, event)
             }
         }
     }

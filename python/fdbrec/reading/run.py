@@ -2,37 +2,11 @@
 
 import collections
 import json
-import os
-import re
 import subprocess
-import tempfile
 
 from .nodes import Nodes
 from .promises import Promises
 from .rules import Fault, want
-
-
-def played(program, pages):
-    """Has a built test_scenarios play files of scenarios, by their names: of each file the rows that differ, as it says
-    them."""
-    with tempfile.TemporaryDirectory() as room:
-        os.chmod(room, 0o755)
-        for name, text in pages.items():
-            with open(f"{room}/{name}", "w", encoding="utf-8") as file:
-                file.write(text)
-        words = [os.path.abspath(program)]
-        ran = subprocess.run(words, cwd=room, stdout=subprocess.PIPE, stderr=subprocess.PIPE, text=True)
-    faults, name = {each: [] for each in pages}, None
-    for line in ran.stdout.splitlines():
-        found = re.match(r"([^:]*):(\d+)?", line) if not line.startswith(" ") else None
-        name = found[1] if found else name
-        if found and found[2] or line.startswith(" "):
-            faults[name].append(line)
-    held = sum(text.count("\n## ") for text in pages.values())
-    said = len(re.findall(r"^\S[^:\n]*: .*: \d+ rows$", ran.stdout, re.M))
-    is_whole = said == held if ran.returncode == 0 else ran.returncode == 1 and any(faults.values())
-    want(is_whole, f"the player ended with status {ran.returncode}: {ran.stderr.strip()}")
-    return {name: lines for name, lines in faults.items() if lines}
 
 
 def audited(program, script):

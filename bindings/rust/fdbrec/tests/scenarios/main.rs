@@ -1,5 +1,6 @@
-//! Plays the scenarios of the machines that this crate wraps, and compares every tell. A row that
-//! the library does not have is left out if it changes nothing, as `made`; else the scenario is played up to it.
+//! Plays the scenarios of the machines that this crate wraps, and compares every tell. A row that the library does not
+//! have is left out if it changes nothing, as `made`; else the scenario is played up to it. tests/bindings compares how
+//! many were played with how many the texts have.
 mod files;
 mod json;
 
@@ -14,8 +15,23 @@ const REFUSALS: [&str; 9] =
     ["TwoOpen", "Over", "Older", "Stranger", "BelowFloor", "NotMyGeneration", "Hole", "NotAfter", "AboveApplied"];
 
 /// Rows that change nothing, and that the library does not have of each machine.
-const LEFT_OUT: [&str; 10] =
-    ["made", "generation", "generations", "copied", "take_back", "failed", "state", "rows", "below", "kept"];
+const LEFT_OUT: [&str; 15] = [
+    "made",
+    "generation",
+    "generations",
+    "copied",
+    "take_back",
+    "failed",
+    "state",
+    "rows",
+    "kept",
+    "undone",
+    "get_at",
+    "range",
+    "lent",
+    "lent_rows",
+    "lent_bytes",
+];
 
 enum Made {
     Cell(Cell),
@@ -70,6 +86,7 @@ impl Made {
             (Made::Recoverer(recoverer), "pending") => recoverer.next().map(|list| asks(Asks::of(&list))),
             (Made::Storage(storage), "hear" | "follow") => follow(storage, &it),
             (Made::Storage(storage), "next") => storage.next().map(|list| Json::of(Asks::of(&list).next().unwrap().1)),
+            (Made::Storage(storage), "read") => read(storage, &it),
             (Made::Storage(storage), "position") => last(storage).map(|it| without(it, "rows")),
             (Made::Storage(storage), "rows") => last(storage).map(|it| it.at("rows").clone()),
             (Made::Store(store), "apply") => {
@@ -111,6 +128,12 @@ fn follow(storage: &mut Storage, it: &Json) -> Result<Json> {
     let heard = storage.hear(&node, &it.at("tell").to_string())?;
     assert_eq!(heard.line(), r#"{"asks":[],"outcome":null}"#);
     Ok(Json::Null)
+}
+
+fn read(storage: &mut Storage, it: &Json) -> Result<Json> {
+    let (begin, end) = (it.at("shard").at("begin").bytes(), it.at("shard").at("end"));
+    let end = if *end == Json::Null { None } else { Some(end.bytes()) };
+    storage.read((&begin, end.as_deref()), &it.at("key").bytes(), it.number("version")).map(value)
 }
 
 fn asks(pairs: Asks) -> Json {
@@ -163,7 +186,7 @@ fn play(scenario: &files::Scenario) -> (usize, Option<String>) {
             None => break,
             Some(Ok(told)) => told,
             Some(Err(Fault::Refused)) => Json::Text("refused".into()),
-            Some(Err(fault)) => Json::Text(fault.to_string()),
+            Some(Err(fault)) => Json::Text(format!("{fault:?}")),
         };
         let wanted = match Json::of(&row.wanted) {
             Json::Text(name) if REFUSALS.contains(&name.as_str()) => Json::Text("refused".into()),
