@@ -11,6 +11,7 @@ mod rows;
 mod run;
 mod script;
 mod watched;
+mod works;
 
 use crate::rows::Row;
 use fr_script::audit::{read_script, write_script};
