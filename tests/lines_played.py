@@ -218,6 +218,8 @@ def drawn(checks, command, seeds, events=400):
 
 # ---- bad lines, and ends
 
+# so many members that no line has that whoever compares each with all others is not done in time
+MANY = b"".join(b'"m%d":0,' % number for number in range(300_000))
 BAD = [
     (b"", None, 12),
     (b"x", None, 12),
@@ -234,6 +236,8 @@ BAD = [
     (b'{"src":"router","dest":"cell 1","body":{"type":"last","msg_id":2}}', 2, 12),
     (b'{"src":"router","dest":"cell 0","body":{"type":"sing","msg_id":9007199254740991}}', 9007199254740991, 10),
     (b'{"src":"router","dest":"cell 0","body":{"type":"submit","msg_id":3,"at":1,"batch":[],"step":1}}', 3, 10),
+    (b'{%b"src":"router","dest":"cell 0","body":{"type":"last","msg_id":4}}' % MANY, 4, 12),
+    (b'{"src":"router","dest":"cell 0","body":{%b"type":"last","msg_id":5}}' % MANY, 5, 12),
 ]
 
 

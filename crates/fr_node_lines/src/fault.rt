@@ -28,7 +28,32 @@ pub enum Member {
     Last,
 }
 
+static MEMBERS: [Member; 17] = [
+    Member::Src,
+    Member::Dest,
+    Member::Body,
+    Member::Type,
+    Member::MsgId,
+    Member::At,
+    Member::From,
+    Member::Ask,
+    Member::Tell,
+    Member::Step,
+    Member::Batch,
+    Member::Turn,
+    Member::Newest,
+    Member::Hearing,
+    Member::Key,
+    Member::Version,
+    Member::Last,
+];
+
 impl Member {
+    /// Whether a member has this name.
+    pub(crate) fn is_name(name: &str) -> bool {
+        MEMBERS.iter().any(|member| member.name() == name)
+    }
+
     /// Its name.
     pub fn name(self) -> &'static str {
         match self {

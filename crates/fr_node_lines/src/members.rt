@@ -5,7 +5,11 @@ use fr_forms::{Formed, ScriptFault, read_one};
 use json::{Reader, Scratch, Token};
 use std::alloc::Global;
 
-/// The members of an object. Of two of one name the last one counts.
+/// More members than an object of any line has.
+const MANY: usize = 16;
+
+/// The members of an object. Of two of one name the last one counts. Once there are [`MANY`], only those are kept that a
+/// line may have: so an object with a million of them is read in one pass.
 #[derive(Drop)]
 pub(crate) struct Members<'t> {
     /// None of what is no object.
@@ -97,7 +101,10 @@ fn split<'t>(alloc: Global, text: &'t str) -> Result<Option<Vec<(String, &'t str
             Some(at) => if let Some(found) = all.get_mut(at) {
                 found.1 = value;
             },
-            None => all.push((String::from_str(alloc, name)?, value))?,
+            // The count of such an object is wrong already, so what no line has is compared with no more.
+            None => if all.len() < MANY || Member::is_name(name) {
+                all.push((String::from_str(alloc, name)?, value))?;
+            },
         }
     }
     Err(Unread::Unusual)
