@@ -46,7 +46,7 @@ class Files:
             json.dump(lines.CONFIG, it)
 
     def words(self, kind, folder):
-        more = ["--config", f"{self.room}/config.json"] if kind[0] == "storage" else []
+        more = ["--config", f"{self.room}/config.json"] if kind[0] == "storage" and "--config" not in kind else []
         if kind[0] in OLD and "--room" not in kind:
             # (a program that is compiled without proofs takes long to set aside 256 MiB twice)
             more += ["--room", "1048576"]
@@ -129,7 +129,7 @@ def refused(checks, command):
 def bad_words(files):
     """Words about files that do not go together, or are beyond their limits."""
     os.mkdir(f"{files.room}/words")
-    for kind in (CELL, LOG):
+    for kind in (CELL, LOG, STORAGE):
         for folder, more in (
             ("", MAKE),
             ("", ADOPT),
@@ -144,10 +144,9 @@ def bad_words(files):
             found, status, text = files.run([*kind, *more], folder)
             is_so = (found, status) == ([], 2) and text.startswith("error: ") and "--help" in text
             files.checks.check(is_so, kind[0], more, "ended with", found, status, text)
-    for folder, more in (("", MAKE), ("words", ADOPT), ("words", ["--cluster", "a"]), ("words", ["--room", "65536"])):
-        found, status, text = files.run([*STORAGE, *more], folder)
-        is_so = (found, status) == ([], 2) and text.startswith("error: ")
-        files.checks.check(is_so, "storage", more, "ended with", found, status, text)
+    found, status, text = files.run([*STORAGE, *MAKE, "--room", "65536"], "words")
+    is_so = (found, status) == ([], 2) and text.startswith("error: ")
+    files.checks.check(is_so, "a database has no room: ended with", found, status, text)
     found = files.run([*LOG, *MAKE, "--cluster", "\u00e9" * 8, "--room", str(2**40)], "words")
     # (as many bytes as a name may have; and a machine has not so much memory as a file may have)
     is_so = found == ([], 0, "") or found[:2] == ([], 3) and found[2].endswith("out of memory")
@@ -233,6 +232,8 @@ def of_others(files):
     wanted = set(itertools.chain(*FILES.values()))
     checks.check(set(made) >= wanted, "files were not made:", set(made))
     log = lambda epoch, index, m, k: ["log", "--epoch", epoch, "--index", index, "--logs", m, "--degree", k]
+    with open(f"{room}/shards.json", "w", encoding="utf-8") as it:
+        json.dump(lines.HALVES, it)
     # the words of another node, and the names by which it takes files for its own
     for kind, names in (
         (["cell", "--index", "1"], {"cell-0": "cell-1"}),
@@ -245,13 +246,16 @@ def of_others(files):
         ([*CELL, "--cluster", "another"], {"cell-0": "cell-0"}),
         ([*LOG, "--cluster", "fdbre"], {"log-513-0": "log-513-0"}),
         ([*LOG, "--cluster", "fdbrecs"], {"log-513-0": "log-513-0"}),
+        (["storage", "--tag", "1", "--config", f"{room}/shards.json"], {"storage-0": "storage-1"}),
+        ([*STORAGE, "--cluster", "another"], {"storage-0": "storage-0"}),
+        ([*STORAGE, "--config", f"{room}/shards.json"], {"storage-0": "storage-0"}),
     ):
         ((its, other),) = names.items()
         shutil.rmtree(f"{room}/swapped", ignore_errors=True)
-        for end in (".0", ".1"):
+        for end in ("",) if kind[0] == "storage" else (".0", ".1"):
             files.make(f"swapped/{other}{end}", made[its + end])
         was = content(f"{room}/swapped")
-        for words in (kind, [*kind, *MAKE]):
+        for words in (kind, [*kind, *MAKE], *([[*kind, *ADOPT]] if kind[0] == "storage" else [])):
             files.ends(words, "swapped", 3, STRANGER, f"over files of {its}")
         checks.check(content(f"{room}/swapped") == was, "files of", its, "are changed by", kind)
     files.make("swapped/storage-0", made["cell-0.0"])
@@ -261,14 +265,96 @@ def of_others(files):
     for name in FILES["cell"]:
         files.make(f"swapped/{name}", made["storage-0"])
     files.ends(CELL, "swapped", 3, BROKEN, "over a database")
-    database = sqlite3.connect(f"{room}/other/storage-0")
-    database.execute("CREATE TABLE t (x)")
-    database.commit()
+    of_programs(files)
+
+
+def of_programs(files):
+    """Databases of other programs: one that says of no program, and one that says of another."""
+    checks, room = files.checks, files.room
+    for application, words in ((0, ((3, UNMADE), (3, THERE), (3, BROKEN))), (1, ((3, BROKEN),) * 3)):
+        database = sqlite3.connect(f"{room}/other/storage-0")
+        database.execute("CREATE TABLE IF NOT EXISTS t (x)")
+        database.execute(f"PRAGMA application_id = {application}")
+        database.commit()
+        database.close()
+        was = content(f"{room}/other")["storage-0"]
+        for more, (status, text) in zip(([], MAKE, ADOPT), words):
+            files.ends([*STORAGE, *more], "other", status, text, f"over a database of the program {application}")
+            checks.check(content(f"{room}/other")["storage-0"] == was, "another database was changed", more)
+
+
+def whose(cluster, tag, shards):
+    """What the header of a storage server's database says of whose it is, by docs/FORMATS.md."""
+    name, begins = f"storage {tag}".encode(), [bytes.fromhex(it) for it in shards]
+    its = [cluster.encode().ljust(16, b"\0"), segments.spelled(len(name), 4), name, b"\1"]
+    its += [segments.spelled(len(begins[tag]), 8), begins[tag]]
+    its += [b"\1" + begins[tag + 1]] if tag + 1 < len(begins) else []
+    return segments.crc32c(b"".join(its))
+
+
+def header(path):
+    """What SQLite says of a database: its application, whose it is, and how long a page is."""
+    database = sqlite3.connect(path)
+    found = [
+        database.execute(f"PRAGMA {name}").fetchone()[0] for name in ("application_id", "user_version", "page_size")
+    ]
     database.close()
-    was = content(f"{room}/other")["storage-0"]
-    files.ends(STORAGE, "other", 3, BROKEN, "over another database")
-    files.ends([*STORAGE, *MAKE], "other", 3, THERE, "made over another database")
-    checks.check(content(f"{room}/other")["storage-0"] == was, "another database was changed")
+    return tuple(it % 2**32 for it in found)
+
+
+def databases(checks, command):
+    """The database of a storage server says whose it is. One that says nothing, of version 0.2, is taken over, once."""
+    with tempfile.TemporaryDirectory() as room:
+        files = Files(checks, command, room)
+        with open(f"{room}/shards.json", "w", encoding="utf-8") as it:
+            json.dump(lines.HALVES, it)
+        for tag, cluster, config in (
+            (0, "fdbrec", "config"),
+            (1, "fdbrec", "shards"),
+            (0, "another cluster", "shards"),
+        ):
+            shards = (lines.CONFIG if config == "config" else lines.HALVES)["shards"]
+            kind, folder = ["storage", "--tag", str(tag), "--cluster", cluster], f"{tag} of {cluster}"
+            kind += ["--config", f"{room}/{config}.json"]
+            os.mkdir(f"{room}/{folder}")
+            path = f"{room}/{folder}/storage-{tag}"
+            files.run([*kind, *MAKE], folder, [it[0] for it in lines.STORAGES[:3]] if config == "config" else [INIT])
+            found, status, text = files.run(kind, folder, [INIT])
+            checks.check((len(found), status, text) == (1, 0, ""), "over its database it answers", found, status, text)
+            wanted = 0x66646272, whose(cluster, tag, shards), 1024
+            checks.check(header(path) == wanted, "the database of", folder, "says", header(path), "and not", wanted)
+            # as version 0.2 left it
+            database = sqlite3.connect(path)
+            database.execute("PRAGMA application_id = 0")
+            database.execute("PRAGMA user_version = 0")
+            database.close()
+            files.ends(kind, folder, 3, UNMADE, "over a database of version 0.2")
+            files.ends([*kind, *MAKE], folder, 3, THERE, "made over a database of version 0.2")
+            checks.check(header(path) == (0, 0, 1024), "a refusal wrote", header(path))
+            its = files.run([*kind, *ADOPT], folder, [INIT])
+            checks.check(its == (found, 0, ""), "taken over it answers", its, "and not", found)
+            checks.check(header(path) == wanted, "taken over it says", header(path), "and not", wanted)
+            files.ends([*kind, *ADOPT], folder, 3, THERE, "taken over twice")
+            its = files.run(kind, folder, [INIT])
+            checks.check(its == (found, 0, ""), "over what was taken over it answers", its, "and not", found)
+        # what a kill leaves while files are made: the first page alone
+        with open(f"{room}/0 of fdbrec/storage-0", "rb") as it:
+            page = bytearray(it.read(1024))
+        # (one page, its first schema, and no table)
+        page[24:28] = page[92:96] = bytes(4)
+        page[28:44] = bytes(3) + b"\1" + bytes(11) + b"\1"
+        page[100:] = b"\r" + bytes(4) + b"\4" + bytes(918)
+        files.make("bare/storage-0", page)
+        files.ends(STORAGE, "bare", 3, UNMADE, "over its first page alone")
+        files.ends([*STORAGE, *ADOPT], "bare", 3, UNMADE, "taken over from its first page alone")
+        files.ends([*STORAGE, *MAKE], "bare", 0, "", "made over its first page alone")
+        files.ends(STORAGE, "bare", 0, "", "over its files")
+        # a database that is empty beside a log that holds none is nobody's: none is made of it
+        files.make("empty/storage-0", b"")
+        files.make("empty/storage-0-wal", b"no log")
+        files.ends(STORAGE, "empty", 3, UNMADE, "over an empty database beside a log")
+        files.ends([*STORAGE, *MAKE], "empty", 3, THERE, "made over an empty database beside a log")
+        files.ends([*STORAGE, *ADOPT], "empty", 3, UNMADE, "taken over from an empty database beside a log")
 
 
 def earlier(files):

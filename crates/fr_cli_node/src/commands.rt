@@ -82,7 +82,9 @@ fn storage_command<'a>(alloc: Global) -> Result<Command<'a>, Error> {
         .arg(few(alloc, "tag", "Its tag, 0 to 31", 0, 31).required(true))?
         .arg(config_word(alloc).required(true))?
         .arg(folder_word(alloc))?
+        .arg(cluster_word(alloc))?
         .arg(make_word(alloc))?
+        .arg(adopt_word(alloc).help("Takes over the database that version 0.2 left, with --dir"))?
         .arg(ahead_word(alloc))?;
     Ok(storage)
 }

@@ -4,6 +4,7 @@
 
 mod cells;
 mod commands;
+mod database;
 mod fault;
 mod files;
 mod lines;

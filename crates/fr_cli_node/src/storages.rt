@@ -1,8 +1,9 @@
 //! The storage servers that words name.
 ghost use Rattle.std.specs.Prelude.{◌≡◌, false};
 
+use crate::database::store_files;
 use crate::fault::NodeEnd;
-use crate::files::{storage_over, store_files};
+use crate::files::storage_over;
 use crate::nodes::config_in;
 use crate::serving::{MAX_LINE, serve};
 use crate::words::StoreFolder;
@@ -35,7 +36,7 @@ pub(crate) fn storage<R: Read, W: Write>(
     };
     match folder {
         Some(folder) => {
-            let files = store_files(host, alloc, folder, tag)?;
+            let files = store_files(host, alloc, folder, tag, &shard)?;
             storage_in(alloc, files, tag, &config, shard, ahead, reader, writer)
         }
         None => {

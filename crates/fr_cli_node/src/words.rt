@@ -87,11 +87,12 @@ pub enum Opening {
     Adopt,
 }
 
-/// The folder of a storage server's database, and whether it is to be made.
+/// The folder of a storage server's database, and the cluster whose it is, as [`Home`] has it.
 #[derive(Debug, Drop, PartialEq, Eq)]
 pub struct StoreFolder {
     pub name: String,
-    pub is_new: bool,
+    pub cluster: [u8; 16],
+    pub how: Opening,
 }
 
 /// The name of the folder, if it is there.
@@ -123,32 +124,36 @@ fn read_cluster(name: &str) -> Option<[u8; 16]> {
     Some(cluster)
 }
 
-/// The home of a cell or a log, if it has a folder; None if the words about its files do not go together.
-fn read_home(alloc: Global, matches: &ArgMatches<'_>) -> Result<Option<Option<Home>>, AllocError> {
-    let room = matches.get_one::<u64>("room").unwrap_or(0);
+/// The folder of a node's files, if it has one; None if the words about its files do not go together.
+fn read_store(
+    alloc: Global,
+    matches: &ArgMatches<'_>,
+) -> Result<Option<Option<StoreFolder>>, AllocError> {
     let cluster = read_cluster(matches.get_str("cluster").unwrap_or(""));
     match (read_folder(alloc, matches)?, read_opening(matches), cluster) {
-        (Some(folder), Some(how), Some(cluster)) => Ok(Some(Some(Home {
-            folder,
-            room: room as usize,
-            cluster,
-            how,
-        }))),
+        (Some(name), Some(how), Some(cluster)) => {
+            Ok(Some(Some(StoreFolder { name, cluster, how })))
+        }
         // Without a folder there is nothing to make.
         (None, Some(Opening::Open), Some(_)) => Ok(Some(None)),
         _ => Ok(None),
     }
 }
 
-/// The folder of a storage server, if it has one; None if it is to make its files in no folder.
-fn read_store(
-    alloc: Global,
-    matches: &ArgMatches<'_>,
-) -> Result<Option<Option<StoreFolder>>, AllocError> {
-    match (read_folder(alloc, matches)?, matches.get_flag("make")) {
-        (Some(name), is_new) => Ok(Some(Some(StoreFolder { name, is_new }))),
-        (None, false) => Ok(Some(None)),
-        (None, true) => Ok(None),
+/// The home of a cell or a log, as [`read_store`] reads the folder of a node.
+fn read_home(alloc: Global, matches: &ArgMatches<'_>) -> Result<Option<Option<Home>>, AllocError> {
+    let room = matches.get_one::<u64>("room").unwrap_or(0);
+    let Some(folder) = read_store(alloc, matches)? else {
+        return Ok(None);
+    };
+    match folder {
+        Some(StoreFolder { name, cluster, how }) => Ok(Some(Some(Home {
+            folder: name,
+            room: room as usize,
+            cluster,
+            how,
+        }))),
+        None => Ok(Some(None)),
     }
 }
 

@@ -238,13 +238,13 @@ func (a *Agent) words(order wire.Order, makes bool) ([]string, error) {
 	its = append(its, order.Words()...)
 	its = append(its, "--most-ahead", fmt.Sprint(mostAhead))
 	if order.Node.HasFiles() {
-		its = append(its, "--dir", filepath.Join(a.room, "files"))
+		its = append(its, "--dir", filepath.Join(a.room, "files"), "--cluster", a.config.FileCluster())
 	}
 	if makes {
 		its = append(its, "--make")
 	}
 	if kind := order.Node.Kind; kind == "cell" || kind == "log" {
-		its = append(its, "--room", fmt.Sprint(a.config.FileRoom), "--cluster", a.config.FileCluster())
+		its = append(its, "--room", fmt.Sprint(a.config.FileRoom))
 	}
 	if kind := order.Node.Kind; kind == "log" || kind == "sequencer" {
 		return its, nil

@@ -57,21 +57,21 @@ func TestFirstNodes(t *testing.T) {
 	}
 }
 
-// Cells and logs are told whose their files are; nodes with files are told to make them where they are to.
+// Nodes with files are told whose they are, and to make them where they are to; cells and logs how long they may be.
 func TestWordsOfFiles(t *testing.T) {
 	a := &Agent{config: &config.Config{Node: []string{"node"}, FileRoom: 65536, Cluster: "a-cluster-of-seve"}, room: t.TempDir()}
 	if err := os.Mkdir(filepath.Join(a.room, "configs"), 0o755); err != nil {
 		t.Fatal(err)
 	}
-	ours := fmt.Sprintf("--dir %s/files", a.room)
+	ours := fmt.Sprintf("--dir %s/files --cluster 86da2ca5dba15bd2", a.room)
 	for _, row := range []struct {
 		kind       string
 		makes      bool
 		its, lacks string
 	}{
-		{"cell", true, ours + " --make --room 65536 --cluster 86da2ca5dba15bd2", "nothing"},
-		{"log", false, ours + " --room 65536 --cluster 86da2ca5dba15bd2", "--make"},
-		{"storage", true, ours + " --make", "--cluster"},
+		{"cell", true, ours + " --make --room 65536", "nothing"},
+		{"log", false, ours + " --room 65536", "--make"},
+		{"storage", true, ours + " --make", "--room"},
 		{"storage", false, ours, "--make"},
 		{"sequencer", false, "--last 0", "--dir"},
 	} {
