@@ -140,12 +140,12 @@ fn held_in(files: &mut Files<HostFile>, whose: u32) -> io::Result<Held> {
     }
     let mut header = [0; HEADER];
     files.db.read_at(0, &mut header)?;
-    if header[..16] != *HEAD {
+    let (head, owner, application) = (&header[..16], &header[60..64], &header[68..72]);
+    if head != HEAD {
         return Ok(Held::Another);
     }
-    let application = &header[68..72];
     if application == APPLICATION.as_slice() {
-        if header[60..64] != whose.to_be_bytes()[..] {
+        if owner != whose.to_be_bytes().as_slice() {
             return Ok(Held::Stranger);
         }
         let is_bare = len == PAGE && log == 0;
