@@ -213,7 +213,7 @@ fn adopted<D: FaithfulDisk + Drop>(
 }
 
 /// Files in whose database these bytes stand, for good.
-fn stamped<D: Disk>(files: Files<D>, at: usize, bytes: &[u8]) -> Result<Files<D>, NodeEnd> {
+fn stamped<D: Disk + Drop>(files: Files<D>, at: usize, bytes: &[u8]) -> Result<Files<D>, NodeEnd> {
     let mut files = files;
     match put(&mut files.db, at, bytes) {
         Ok(()) => Ok(files),
