@@ -170,6 +170,10 @@ func (e *act) read(text []byte) (is bool) {
 
 // where is as much of a last state as an agent looks at. A storage server's rows stay where they are.
 type where struct {
+	Cell *struct {
+		Promised uint64 `json:"promised"`
+		Written  uint64 `json:"written"`
+	} `json:"cell,omitempty"`
 	Log *struct {
 		Durable uint64 `json:"durable"`
 		Known   uint64 `json:"known"`

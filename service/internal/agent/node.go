@@ -238,6 +238,9 @@ func (n *node) greet() error {
 	if first.Node == nil || *first.Node != n.name {
 		return errors.New("it says at its start that it is another node")
 	}
+	if err := n.beforeLast(first.stands()); n.name.HasFiles() && err != nil {
+		return err
+	}
 	n.took(&item{}, first)
 	switch {
 	case n.name.Kind == "recoverer":
