@@ -152,6 +152,7 @@ def running(checks, room):
         in_use(checks, cluster)
         early(checks, cluster)
         lost_file(checks, cluster)
+        put_back(checks, cluster)
         erased(checks, cluster)
         dropped(checks, cluster)
         line, why, _ = cluster.audit()
@@ -551,6 +552,49 @@ def lost_file(checks, cluster):
             time.sleep(0.3)
             its = node_of(cluster, "m1", "cell-1")
         checks.check(its.get("state") == "up", "cell 1 is up once its files are back:", its)
+
+
+def put_back(checks, cluster):
+    """The files of a storage server are put back as they were some commits ago. Nothing in them tells that; its agent
+    knows it by its journal, and starts it over those that it had."""
+    machines = cluster.standing()["machines"]
+    machine = next(name for name, its in sorted(machines.items()) if "storage-0" in its.get("nodes", {}))
+    folder = f"{cluster.room}/{machine}/files"
+
+    def stopped():
+        cluster.its[machine].terminate()
+        cluster.its[machine].wait()
+        return {it: content(it) for it in paths_of(folder, "storage-0")}
+
+    def put(files):
+        for path in paths_of(folder, "storage-0"):
+            os.remove(path)
+        for path, data in files.items():
+            with open(path, "wb") as it:
+                it.write(data)
+        cluster.start(machine)
+
+    def is_said(state, why):
+        ends, its = time.monotonic() + 60, {}
+        while (its.get("state") != state or why not in its.get("why", "")) and time.monotonic() < ends:
+            time.sleep(0.3)
+            its = node_of(cluster, machine, "storage-0")
+        is_so = its.get("state") == state and why in its.get("why", "")
+        checks.check(is_so, "storage 0 is to be", state, why, "and is", its)
+
+    before = stopped()
+    cluster.start(machine)
+    for _ in range(4):
+        checks.check(cluster.comes(60) is not None, "it goes on after a restart:", cluster.last.stderr)
+        time.sleep(1)
+    now = stopped()
+    checks.check(before != now, "four commits changed no file of storage 0")
+    put(before)
+    is_said("failed", "its files are of an earlier moment")
+    stopped()
+    put(now)
+    is_said("up", "")
+    checks.check(cluster.comes(60) is not None, "it goes on over the files that it had:", cluster.last.stderr)
 
 
 def node_of(cluster, machine, token):
