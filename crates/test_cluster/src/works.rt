@@ -90,7 +90,11 @@ pub(crate) fn works<'a, R: Wait>(
 /// The batches of the workload of this number, the last one first.
 fn ahead(alloc: Global, row: &Row, number: u8) -> anyhow::Result<Vec<Order>> {
     let Some((seed, _)) = row.storm else {
-        return all_of(alloc, Orders::new(alloc, number, row.storages, row.batches), row.batches);
+        return all_of(
+            alloc,
+            Orders::new(alloc, number, row.storages, row.batches),
+            row.batches,
+        );
     };
     if row.storages == 0 || row.storages > 32 {
         bail!("no storage server, or too many");
