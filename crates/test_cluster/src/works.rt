@@ -104,7 +104,7 @@ fn ahead(alloc: Global, row: &Row, number: u8) -> anyhow::Result<Vec<Order>> {
 }
 
 /// The first batches of a workload, the last one first.
-fn all_of<W: Workload>(alloc: Global, work: W, many: u32) -> anyhow::Result<Vec<Order>> {
+fn all_of<W: Workload + Drop>(alloc: Global, work: W, many: u32) -> anyhow::Result<Vec<Order>> {
     let (mut work, mut orders) = (work, Vec::new(alloc));
     for _ in 0..many {
         let Some((step, batch)) = work.next()? else {
