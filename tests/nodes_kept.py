@@ -393,9 +393,10 @@ def adopted(checks, command):
             checks.check(state(files, kind, folder) == wanted, kind[0], "is otherwise after that")
             os.remove(f"{room}/{folder}/{name}")
             checks.check(state(files, kind, folder) == wanted, kind[0], "needs its old file")
-            # damage, a file of another node, and a file that holds no record
+            # damage, a file of another node, one of no node, and a file that holds no record
             for at, (spoilt, status, text) in enumerate((
                 (frames[:-1], 3, BROKEN),
+                (b"no file of a node" * 20, 3, BROKEN),
                 (frames[:5] + b"\xff" + frames[6:], 3, BROKEN),
                 (b"", 3, BROKEN),
                 (segments.frames(olds(kind is CELL)[0]), 3, BROKEN),
