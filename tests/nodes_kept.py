@@ -283,8 +283,8 @@ def damaged(checks, command):
 
 def small():
     """A small cell's and a small log's files: the kind, the pair, whose second file is current, its records, and for
-    each file the places at which a changed byte is no damage: of the current one the gate of its last group, and what is
-    behind the closed gate; of the older one all but the block of its first group, which has the header."""
+    each file the places at which a changed byte is no damage: of the current one the gate of its last group, and what
+    is behind the closed gate; of the older one all but the block of its first group, which has the header."""
     log, groups = segments.Log(513, 0, 4, 2), []
     for ask in (lines.SEED, lines.push(10, 11, 9, mark=lines.STATE), lines.push(11, 13, 11, [[0, lines.BATCH]])):
         groups.append(segments.log_records(ask, log))

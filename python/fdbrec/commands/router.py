@@ -13,7 +13,7 @@ has that audited, and prints the line of the audit, where the journals lie, and 
               draws which node runs by which. Without it: the built fdbrec_node, as `fdbrec_node node`.
   --store     files, which is meant: cells, logs and storage servers come back after a kill; memory: what is killed is
               gone
-  --room      cells and logs have files of so many bytes, 65536 at least, and values of batches up to an eighth of that:
+  --room      cells and logs have files of so many bytes, 65536 at least, and values of batches up to a quarter of that:
               logs are full now and then, and let go of what is popped
   --audit     COMMAND reads the script and prints a line; else `fdbrec audit`, or `judge` if that is not built
   --dir       where all is written, else a new folder; with several seeds each has a folder in it, which is kept if the

@@ -26,8 +26,8 @@ class Message:
 
 
 class Cluster:
-    """The nodes of a world, by the seed. `commands` says by which programs each kind of node runs, `most` how many bytes
-    a file of a cell or a log may have."""
+    """The nodes of a world, by the seed. `commands` says by which programs each kind of node runs, `most` how many
+    bytes a file of a cell or a log may have."""
 
     def __init__(self, seed, room, commands, has_files, most=None):
         self.seed, self.room, self.commands, self.has_files, self.most = seed, room, commands, has_files, most
