@@ -361,8 +361,11 @@ def lets_go(checks, command):
         checks.check(number > 5 and max(sizes) <= 65536, "it let go", number - 1, "times, of files of", sizes, "bytes")
         # a cell lets go too: it has one state, however often it is asked
         value, asked = "ab" * 4000, {"type": "ask", "at": 9, "from": lines.RECOVERER}
-        found = files.run([*CELL, *MAKE, "--room", "65536"], "files", [
-            *(asked | {"ask": lines.write(256 * ballot, value)} for ballot in range(2, 42)), INIT])
+        found = files.run(
+            [*CELL, *MAKE, "--room", "65536"],
+            "files",
+            [*(asked | {"ask": lines.write(256 * ballot, value)} for ballot in range(2, 42)), INIT],
+        )
         wanted = [{"cell": {"promised": 256 * 41, "value": value, "written": 256 * 41}}]
         is_so = found[1:] == (0, "") and shown(found[0][-1:]) == wanted
         checks.check(is_so, "a cell that lets go ended with", found[1:])
@@ -398,14 +401,16 @@ def adopted(checks, command):
             os.remove(f"{room}/{folder}/{name}")
             checks.check(state(files, kind, folder) == wanted, kind[0], "needs its old file")
             # damage, a file of another node, one of no node, and a file that holds no record
-            for at, (spoilt, status, text) in enumerate((
-                (frames[:-1], 3, BROKEN),
-                (b"no file of a node" * 20, 3, BROKEN),
-                (frames[:5] + b"\xff" + frames[6:], 3, BROKEN),
-                (b"", 3, BROKEN),
-                (segments.frames(olds(kind is CELL)[0]), 3, BROKEN),
-                (segments.frames([]), 0, ""),
-            )):
+            for at, (spoilt, status, text) in enumerate(
+                (
+                    (frames[:-1], 3, BROKEN),
+                    (b"no file of a node" * 20, 3, BROKEN),
+                    (frames[:5] + b"\xff" + frames[6:], 3, BROKEN),
+                    (b"", 3, BROKEN),
+                    (segments.frames(olds(kind is CELL)[0]), 3, BROKEN),
+                    (segments.frames([]), 0, ""),
+                )
+            ):
                 files.make(f"{folder}-{at}/{name}", spoilt)
                 files.ends([*kind, *ADOPT], f"{folder}-{at}", status, text, f"taken over from {spoilt[:20]}")
                 checks.check(content(f"{room}/{folder}-{at}").get(name, b"") == spoilt, kind[0], "changed", spoilt[:20])
