@@ -9,6 +9,10 @@ class Wrong(Exception):
     pass
 
 
+class Damaged(Wrong):
+    """Files that are none, where a loss of power came before they were made."""
+
+
 def run(words, text="", **more):
     return subprocess.run(words, input=text, capture_output=True, text=True, timeout=120, **more)
 
@@ -16,19 +20,42 @@ def run(words, text="", **more):
 class Kept:
     """What a program is given and tells, by numbers from 1 on, and what stands in its file then."""
 
+    ENDS = ("", "-wal")  # of the names of its two files
+    BEGINS = ("a fresh file", "a file that is there")
+
     def __init__(self, program):
         self.program = os.path.realpath(program)
 
+    def begin(self, which, path, count):
+        """Makes what a run begins with: nothing, or what an earlier one left. Up to which number that is."""
+        if which == 0:
+            return 0
+        done = self.play(self.words(path), 1, count)
+        if done.returncode != 0:
+            raise Wrong(f"the first script ends with {done.returncode}: {done.stderr.strip()}")
+        return count
+
+    def play(self, words, first, last, **more):
+        """Gives the program the numbers from first to last: how it ended."""
+        return run(words, self.text(first, last), **more)
+
+    def are_made(self, pair):
+        """Whether files are so far that no crash leaves any but whole ones."""
+        return True
+
+    def ended(self, which, path):
+        """Looks at what a run left that came to its end."""
+
     def look(self, path, copy, told):
         """Up to which number a file has what was given, if this is right after so much was told."""
-        there = self.read(copy) if os.path.exists(copy) else 0
+        there = self.read(copy, told)
         if not told <= there <= told + 1:
             raise Wrong(f"told {told}, and {self.READER} finds {there}")
         self.show(path, there)
         return there
 
     def go_on(self, path, there):
-        on = run(self.words(path), self.text(there + 1, there + 1))
+        on = self.play(self.words(path), there + 1, there + 1)
         if on.returncode != 0 or self.told(on.stdout) != there + 1:
             raise Wrong(f"it does not go on from {there}: {on.stdout.strip()} {on.stderr.strip()}")
 
@@ -59,7 +86,9 @@ class Store(Kept):
         found = re.findall(r"^ok (\d+) ", out, re.M)
         return int(found[-1]) if found else 0
 
-    def read(self, copy):
+    def read(self, copy, _):
+        if not os.path.exists(copy):
+            return 0
         seen = run(["sqlite3", copy, "SELECT applied FROM meta; PRAGMA integrity_check"])
         lines = seen.stdout.split()
         # (a file whose making was cut off: the program alone makes it whole)
@@ -98,7 +127,9 @@ class Records(Kept):
         found = re.findall(r"^kept (\d+): ", out, re.M)
         return int(found[-1]) if found else 0
 
-    def read(self, copy):
+    def read(self, copy, _):
+        if not os.path.exists(copy):
+            return 0
         with open(copy, "rb") as file:
             content = file.read()
         place, found = 0, 0

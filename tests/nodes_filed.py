@@ -457,8 +457,7 @@ def failed(checks, command):
 
 def full(checks, command):
     """A log without room: a push that would need a byte more is refused and changes nothing, and one that needs none
-    more is taken. It leaves 4,096 bytes free, so that a log without room is locked, popped and locked again; a pop
-    leaves 64 of them."""
+    more is taken. It leaves 4,096 bytes free, so that a log without room is locked, popped and locked again."""
 
     def body(size):
         big = [{"set": {"key": "61", "value": "00" * size}}]
@@ -538,22 +537,30 @@ def never_popped(files):
 
 
 def only_pops(files, owner):
-    """Pops of a log whose state takes more than half of its room are refused at last; a lock is not, and is there at
-    the next start."""
-    last, _ = filled(files, "pops", 100)
-    found = files.run(LITTLE, "pops", [pop(version) for version in range(12, min(last - 1, 172))])
+    """A log that is full takes pops until not one more fits into its file, and lets go for the next one, although what
+    is left takes more than half of its room: the push that was refused is taken then. It is locked, too, and that is
+    there at the next start."""
+    last, refused_line = filled(files, "pops", 100)
+    size = len(files.pair("pops")[0])
+    # (a pop is a record of 10 bytes, with 4 bytes before it in a group of 14 bytes)
+    most = (65536 - size) // 28
+    for given, number in (([pop(12 + at) for at in range(most)], 1), ([pop(12 + most)], 2)):
+        found, status, text = files.run(LITTLE, "pops", given)
+        told = [it.get("text", it["type"]) for it in found]
+        is_so = told == ["ask_ok"] * len(given) and (status, text) == (0, "")
+        files.checks.check(is_so and most > 140, len(given), "pops of a full log are told", told, status, text)
+        at = segments.current(files.pair("pops"), owner)
+        files.checks.check(at == ((number - 1) % 2, number), "behind them the current file is", at, "and not", number)
+    sizes = list(map(len, files.pair("pops")))
+    is_so = sizes[0] == size + 28 * most > 65536 - 28 and 32768 < sizes[1] < 61440
+    files.checks.check(is_so, "pops to the last byte, and one behind them: the files have", sizes, "bytes")
+    found = files.run(LITTLE, "pops", [refused_line, lock(), lock(), INIT])
     told = [it.get("text", it["type"]) for it in found[0]]
-    some = told.index("Full") if "Full" in told else 0
-    is_so = 50 < some < len(told) - 5 and told == ["ask_ok"] * some + ["Full"] * (len(told) - some)
-    files.checks.check(is_so, "pops of a full log are told", told, found[1:])
-    size = max(map(len, files.pair("pops")))
-    files.checks.check(65536 - 64 - 28 < size <= 65536 - 64, "after its pops the file has", size, "bytes")
-    found = files.run(LITTLE, "pops", [lock(), lock(), INIT])
-    told = [it.get("text", it["type"]) for it in found[0]]
-    is_so = told == ["ask_ok", "ask_ok", "init_ok"] and found[1:] == (0, "")
-    files.checks.check(is_so, "a lock behind pops without room is told", told, found[1:])
+    is_so = told == ["ask_ok", "ask_ok", "ask_ok", "init_ok"] and found[1:] == (0, "")
+    files.checks.check(is_so, "a push and a lock behind pops without room are told", told, found[1:])
     log = segments.log_of(segments.records_of(files.pair("pops"), owner), 513, 0, 4, 2)
-    files.checks.check({"log": log.last()} == found[0][-1]["last"], "its file has", log.last(), "and not", found[0][-1])
+    is_so = {"log": log.last()} == found[0][-1]["last"] and log.stopped and log.durable == last + 1
+    files.checks.check(is_so, "its file has", log.last(), "and not", found[0][-1])
 
 
 def together(checks, command):

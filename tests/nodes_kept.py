@@ -282,8 +282,9 @@ def damaged(checks, command):
 
 
 def small():
-    """A small cell's and a small log's files: the kind, the pair, whose second file is current, its records, and the
-    places at which a changed byte is no damage: the gate of its last group, and what is behind the closed gate."""
+    """A small cell's and a small log's files: the kind, the pair, whose second file is current, its records, and for
+    each file the places at which a changed byte is no damage: of the current one the gate of its last group, and what
+    is behind the closed gate; of the older one all but the block of its first group, which has the header."""
     log, groups = segments.Log(513, 0, 4, 2), []
     for ask in (lines.SEED, lines.push(10, 11, 9, mark=lines.STATE), lines.push(11, 13, 11, [[0, lines.BATCH]])):
         groups.append(segments.log_records(ask, log))
@@ -296,33 +297,36 @@ def small():
         whole = segments.file_of([[segments.header(7, owner), *first], *rest])
         closed = len(whole) - 10
         last = closed - 2 - len(segments.block(len(rest), rest[-1]))
-        harmless = {last, last + 1, *range(closed + 2, len(whole))}
+        header = range(2, 2 + len(segments.block(0, [segments.header(6, owner), *groups[0]])))
+        harmless = set(range(len(older))) - set(header), {last, last + 1, *range(closed + 2, len(whole))}
         yield kind, (older, whole), [it for group in groups for it in group], harmless
 
 
 def changed(checks, command):
-    """Each byte of the current file of a small cell and a small log, changed in three ways: it is damage that is told,
-    or the node is in the very same state. Which of both it is, docs/FORMATS.md says."""
+    """Each byte of both files of a small cell and a small log, changed in three ways: it is damage that is told, or the
+    node is in the very same state. Which of both it is, docs/FORMATS.md says."""
     counts = {"refused by name": 0, "the same state": 0}
     with tempfile.TemporaryDirectory() as room, concurrent.futures.ThreadPoolExecutor(2) as pool:
         files = Files(checks, command, room)
 
-        def look(number, kind, pair, wanted, is_same, at, byte):
-            whole = pair[1][:at] + bytes([byte]) + pair[1][at + 1 :]
-            put(files, f"{number}", kind, (pair[0], whole))
+        def look(number, kind, pair, wanted, is_same, which, at, byte):
+            spoilt = [*pair]
+            spoilt[which] = pair[which][:at] + bytes([byte]) + pair[which][at + 1 :]
+            put(files, f"{number}", kind, spoilt)
             found = state(files, kind, f"{number}")
             shutil.rmtree(f"{room}/{number}")
             is_told = found == ([], 3, BROKEN)
             is_so = found == wanted if is_same else is_told
-            checks.check(is_so, kind[0], "with byte", at, "changed to", byte, "is opened as", found)
+            checks.check(is_so, kind[0], "with byte", at, "of file", which, "changed to", byte, "is opened as", found)
             return "refused by name" if is_told else "the same state" if found == wanted else "another state"
 
         rows = []
         for kind, pair, records, harmless in small():
             wanted = spelled(kind, records)
-            for at, byte in enumerate(pair[1]):
+            for which, at in ((which, at) for which in (0, 1) for at in range(len(pair[which]))):
+                byte = pair[which][at]
                 ways = {0, byte ^ 0xFF, (byte + 1) % 256} - {byte}
-                rows += [(kind, pair, wanted, at in harmless, at, its) for its in ways]
+                rows += [(kind, pair, wanted, at in harmless[which], which, at, its) for its in ways]
         begun = [pool.submit(look, number, *row) for number, row in enumerate(built.share(rows, 200))]
         for it in begun:
             counts[it.result()] = counts.get(it.result(), 0) + 1
@@ -357,8 +361,11 @@ def lets_go(checks, command):
         checks.check(number > 5 and max(sizes) <= 65536, "it let go", number - 1, "times, of files of", sizes, "bytes")
         # a cell lets go too: it has one state, however often it is asked
         value, asked = "ab" * 4000, {"type": "ask", "at": 9, "from": lines.RECOVERER}
-        found = files.run([*CELL, *MAKE, "--room", "65536"], "files", [
-            *(asked | {"ask": lines.write(256 * ballot, value)} for ballot in range(2, 42)), INIT])
+        found = files.run(
+            [*CELL, *MAKE, "--room", "65536"],
+            "files",
+            [*(asked | {"ask": lines.write(256 * ballot, value)} for ballot in range(2, 42)), INIT],
+        )
         wanted = [{"cell": {"promised": 256 * 41, "value": value, "written": 256 * 41}}]
         is_so = found[1:] == (0, "") and shown(found[0][-1:]) == wanted
         checks.check(is_so, "a cell that lets go ended with", found[1:])
@@ -393,14 +400,17 @@ def adopted(checks, command):
             checks.check(state(files, kind, folder) == wanted, kind[0], "is otherwise after that")
             os.remove(f"{room}/{folder}/{name}")
             checks.check(state(files, kind, folder) == wanted, kind[0], "needs its old file")
-            # damage, a file of another node, and a file that holds no record
-            for at, (spoilt, status, text) in enumerate((
-                (frames[:-1], 3, BROKEN),
-                (frames[:5] + b"\xff" + frames[6:], 3, BROKEN),
-                (b"", 3, BROKEN),
-                (segments.frames(olds(kind is CELL)[0]), 3, BROKEN),
-                (segments.frames([]), 0, ""),
-            )):
+            # damage, a file of another node, one of no node, and a file that holds no record
+            for at, (spoilt, status, text) in enumerate(
+                (
+                    (frames[:-1], 3, BROKEN),
+                    (b"no file of a node" * 20, 3, BROKEN),
+                    (frames[:5] + b"\xff" + frames[6:], 3, BROKEN),
+                    (b"", 3, BROKEN),
+                    (segments.frames(olds(kind is CELL)[0]), 3, BROKEN),
+                    (segments.frames([]), 0, ""),
+                )
+            ):
                 files.make(f"{folder}-{at}/{name}", spoilt)
                 files.ends([*kind, *ADOPT], f"{folder}-{at}", status, text, f"taken over from {spoilt[:20]}")
                 checks.check(content(f"{room}/{folder}-{at}").get(name, b"") == spoilt, kind[0], "changed", spoilt[:20])

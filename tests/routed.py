@@ -61,6 +61,11 @@ def is_run(checks, name, ran):
     checks.check(is_so, name, "did too little:", ran.counts)
 
 
+def is_full(checks, name, ran):
+    """Logs had no room for some lines."""
+    checks.check(ran.counts.get("refused as Full", 0) > 0, name, "is never full:", ran.counts)
+
+
 def are_agreed(checks, name, ran):
     """The audit and bench/judge say the same line."""
     said = ran.judged() if ran.lines else None

@@ -22,11 +22,15 @@ KINDS = "cell", "log", "sequencer", "proxy", "recoverer", "storage"
 
 def needs():
     """Builds the service, or skips the test by the names of the packages that it lacks."""
-    lacking = [name for name, is_there in (
-        ("golang-go", shutil.which("go")),
-        ("golang-github-nats-io-go-nats-dev", os.path.isdir(NATS)),
-        ("nats-server", shutil.which("nats-server")),
-    ) if not is_there]
+    lacking = [
+        name
+        for name, is_there in (
+            ("golang-go", shutil.which("go")),
+            ("golang-github-nats-io-go-nats-dev", os.path.isdir(NATS)),
+            ("nats-server", shutil.which("nats-server")),
+        )
+        if not is_there
+    ]
     if lacking:
         built.skip(f"it lacks {', '.join(lacking)}: apt-get install -y {PACKAGES}")
     built.passes([f"{built.TOP}/service/build"])
@@ -227,8 +231,20 @@ class Cluster:
 class Faults:
     """What goes wrong in a run, one after another, by the seed. Each is undone before the run ends."""
 
-    KINDS = {"agent": 4, "node": 6, "broker": 2, "keeper": 2, "stop agent": 2, "stop node": 3, "stop broker": 1,
-             "stop keeper": 1, "all agents": 3, "cut": 4, "cut off": 3, "full disk": 3}
+    KINDS = {
+        "agent": 4,
+        "node": 6,
+        "broker": 2,
+        "keeper": 2,
+        "stop agent": 2,
+        "stop node": 3,
+        "stop broker": 1,
+        "stop keeper": 1,
+        "all agents": 3,
+        "cut": 4,
+        "cut off": 3,
+        "full disk": 3,
+    }
 
     def __init__(self, cluster, seed):
         self.cluster, self.dice = cluster, random.Random(f"faults {seed}")

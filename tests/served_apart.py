@@ -98,21 +98,31 @@ def configurations(checks, room):
         checks.check(not os.path.exists(f"{room}/m0"), new, "makes something")
     with open(path, "w", encoding="utf-8") as it:
         it.write(good)
-    for words, status in (((), 2), (("nothing",), 2), (("--help",), 0), (("get", "a"), 2), (("put", "a"), 2),
-                          (("get", "--huh"), 2), (("agent", "--machine", "m9", "--config", path), 2),
-                          (("keeper", "--number", "7", "--config", path), 2), (("get", "a", "--config", "/no/file"), 2),
-                          (("init", "--machine", "m0", "--config", path), 0),
-                          (("init", "--machine", "m0", "--config", path), 3),
-                          (("agent", "--machine", "m1", "--config", path), 3),
-                          (("keeper", "--number", "1", "--config", path), 3),
-                          (("init", "--number", "1", "--config", path), 0),
-                          (("init", "--number", "1", "--config", path), 3), (("journals", f"{room}/m1"), 1),
-                          (("load", "--config", path), 2), (("load", f"{room}/m0/room.json", "--config", path), 1),
-                          (("journals", "--drop-before", "1", f"{room}/m0"), 1),
-                          (("journals", "--drop-before", "x", f"{room}/m0"), 2),
-                          (("bench", "--seconds", "1", "--clients", "0", "--config", path), 2),
-                          (("bench", "--seconds", "1", "--clients", "1", "--keys", "1000", "--config", path), 2),
-                          (("bench", "--clients", "1", "--config", path), 2)):
+    for words, status in (
+        ((), 2),
+        (("nothing",), 2),
+        (("--help",), 0),
+        (("get", "a"), 2),
+        (("put", "a"), 2),
+        (("get", "--huh"), 2),
+        (("agent", "--machine", "m9", "--config", path), 2),
+        (("keeper", "--number", "7", "--config", path), 2),
+        (("get", "a", "--config", "/no/file"), 2),
+        (("init", "--machine", "m0", "--config", path), 0),
+        (("init", "--machine", "m0", "--config", path), 3),
+        (("agent", "--machine", "m1", "--config", path), 3),
+        (("keeper", "--number", "1", "--config", path), 3),
+        (("init", "--number", "1", "--config", path), 0),
+        (("init", "--number", "1", "--config", path), 3),
+        (("journals", f"{room}/m1"), 1),
+        (("load", "--config", path), 2),
+        (("load", f"{room}/m0/room.json", "--config", path), 1),
+        (("journals", "--drop-before", "1", f"{room}/m0"), 1),
+        (("journals", "--drop-before", "x", f"{room}/m0"), 2),
+        (("bench", "--seconds", "1", "--clients", "0", "--config", path), 2),
+        (("bench", "--seconds", "1", "--clients", "1", "--keys", "1000", "--config", path), 2),
+        (("bench", "--clients", "1", "--config", path), 2),
+    ):
         ran = said(*words, env={key: its for key, its in os.environ.items() if key != "FDBREC_CONFIG"})
         is_so = ran.returncode == status and "panic" not in ran.stderr and (ran.stderr or status == 0)
         checks.check(is_so, words, ran.returncode, ran.stderr[-300:])
@@ -368,8 +378,11 @@ def dropped(checks, cluster):
         time.sleep(0.5)  # (until each agent has ended what is over)
     checks.check(ran.stdout.startswith("dropped: the journals of "), "dropped:", ran.stdout, ran.stderr)
     names = [name for room in rooms for name in os.listdir(f"{room}/journals")]
-    left = [it[0] for it in (re.fullmatch(r"(log|sequencer|proxy|recoverer)-(\d+).*", name) for name in names)
-            if it and int(it[2]) < oldest]
+    left = [
+        it[0]
+        for it in (re.fullmatch(r"(log|sequencer|proxy|recoverer)-(\d+).*", name) for name in names)
+        if it and int(it[2]) < oldest
+    ]
     checks.check(names and not left, "journals of ended epochs:", left)
     cluster.kill("m2")
     cluster.start("m2")
@@ -408,12 +421,21 @@ def others(checks, cluster):
 def values(checks, cluster):
     """What a client reads is what was put, changed and cleared."""
     for words, wanted in (
-        (("put", "a", "one"), "committed"), (("get", "a"), "one\n"), (("put", "z", "two"), "committed"),
-        (("get", "z"), "two\n"), (("clear", "a"), "committed"), (("get", "a"), "none\n"), (("get", "z"), "two\n"),
-        (("add", "n", "258"), "committed"), (("get", "6e", "--hex"), "0201000000000000\n"),
-        (("add", "n", "-1"), "committed"), (("get", "6e", "--hex"), "0101000000000000\n"),
-        (("put", "7a", "ff00", "--hex"), "committed"), (("get", "7a", "--hex"), "ff00\n"),
-        (("clear", "b", "zz"), "committed"), (("get", "z"), "none\n"),
+        (("put", "a", "one"), "committed"),
+        (("get", "a"), "one\n"),
+        (("put", "z", "two"), "committed"),
+        (("get", "z"), "two\n"),
+        (("clear", "a"), "committed"),
+        (("get", "a"), "none\n"),
+        (("get", "z"), "two\n"),
+        (("add", "n", "258"), "committed"),
+        (("get", "6e", "--hex"), "0201000000000000\n"),
+        (("add", "n", "-1"), "committed"),
+        (("get", "6e", "--hex"), "0101000000000000\n"),
+        (("put", "7a", "ff00", "--hex"), "committed"),
+        (("get", "7a", "--hex"), "ff00\n"),
+        (("clear", "b", "zz"), "committed"),
+        (("get", "z"), "none\n"),
     ):
         ran = cluster.run(*words, "--within", "20s")
         checks.check(ran.stdout.startswith(wanted), words, "gives", ran.stdout, ran.stderr, "wanted", wanted)
@@ -454,8 +476,13 @@ def dumps(checks, cluster):
 
 def pages(checks, port):
     text = fetch(port, "metrics")
-    for wanted in ("fdbrec_epoch ", 'fdbrec_node_up{node="cell-1"} 1', 'fdbrec_log_durable{node="log-257-1"} ',
-                   "# TYPE fdbrec_messages_sent_total counter", "fdbrec_free_bytes "):
+    for wanted in (
+        "fdbrec_epoch ",
+        'fdbrec_node_up{node="cell-1"} 1',
+        'fdbrec_log_durable{node="log-257-1"} ',
+        "# TYPE fdbrec_messages_sent_total counter",
+        "fdbrec_free_bytes ",
+    ):
         checks.check(wanted in text, "/metrics lacks", wanted)
     checks.check(fetch(port, "healthz") == "ok\n", "/healthz says", fetch(port, "healthz"))
 

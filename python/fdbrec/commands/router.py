@@ -1,5 +1,5 @@
 """router [--seed S | --seeds A-B] [--kills N] [--steps N] [--store files|memory] [--node [KIND=]COMMAND]..
-             [--audit COMMAND] [--dir FOLDER] [--jobs N] [--keep] [--shrink] [--without A-B,..]
+             [--room BYTES] [--audit COMMAND] [--dir FOLDER] [--jobs N] [--keep] [--shrink] [--without A-B,..]
 
 Runs a whole cluster of processes, one for each node, and kills them. It starts the nodes, carries asks and tells
 between them, loses, repeats, delays and reorders them, kills nodes with kill -9 at any moment, starts them again over
@@ -13,6 +13,8 @@ has that audited, and prints the line of the audit, where the journals lie, and 
               draws which node runs by which. Without it: the built fdbrec_node, as `fdbrec_node node`.
   --store     files, which is meant: cells, logs and storage servers come back after a kill; memory: what is killed is
               gone
+  --room      cells and logs have files of so many bytes, 65536 at least, and values of batches up to a quarter of that:
+              logs are full now and then, and let go of what is popped
   --audit     COMMAND reads the script and prints a line; else `fdbrec audit`, or `judge` if that is not built
   --dir       where all is written, else a new folder; with several seeds each has a folder in it, which is kept if the
               seed fails or with --keep
@@ -31,6 +33,7 @@ The counts, which are those of all seeds together if there are several:
   rollbacks              storage servers that went back to an earlier version, by so many `versions undone` in all
   batches acknowledged   committed, as their proxies said; `waiting`: nothing was said of them; `taken back`: numbered,
                          and then cut off by a recovery
+  refused as Full        lines for which a log had no room
 docs/NODES.md says what lines go to and fro. A node that answers by another form ends its seed, and is named. On a
 terminal a long run shows how far it is.
 """
@@ -72,6 +75,7 @@ SAID = (
     ("acknowledged", "batches acknowledged"),
     ("waiting", "waiting"),
     ("taken", "taken back"),
+    ("full", "refused as Full"),
 )
 
 
@@ -103,6 +107,12 @@ def ranges_of(text):
 def count(text):
     if not text.isdecimal():
         raise argparse.ArgumentTypeError(f"{text!r} is no number")
+    return int(text)
+
+
+def room_of(text):
+    if count(text) < 65536:
+        raise argparse.ArgumentTypeError(f"{text} is too little: files have 65536 bytes at least")
     return int(text)
 
 
@@ -141,6 +151,7 @@ def parsed(words):
     its.add_argument("--steps", type=count, default=3000)
     its.add_argument("--store", choices=("files", "memory"), default="files")
     its.add_argument("--node", action="append", type=node_of, default=[])
+    its.add_argument("--room", type=room_of)
     its.add_argument("--audit", type=command_of)
     its.add_argument("--dir")
     its.add_argument("--jobs", type=count, default=1)
@@ -171,7 +182,7 @@ def play(seed, room, words, without=()):
     progress = Progress(len(words.seeds) == 1)
     try:
         os.makedirs(room, exist_ok=True)
-        story = Story(seed, room, commands_of(words.node), words.store == "files")
+        story = Story(seed, room, commands_of(words.node), words.store == "files", words.room)
         heed = lambda step: progress.show(f"step {step:,} of {words.steps:,}")
         story.play(words.steps, words.kills, set(without), heed)
         progress.show("its journals are audited")
@@ -194,7 +205,7 @@ def play(seed, room, words, without=()):
         counts["acknowledged"], counts["waiting"], counts["taken"] = story.batches()
     its = {"seed": seed, "line": line, "without": sorted(without), "counts": counts}
     its |= {"trace": trace} if trace else {}
-    its |= {name: getattr(words, name) for name in ("kills", "steps", "store", "node")}
+    its |= {name: getattr(words, name) for name in ("kills", "steps", "store", "node", "room")}
     if os.path.isdir(room):
         with open(f"{room}/router.json", "w", encoding="utf-8") as it:
             json.dump(its, it)
@@ -282,6 +293,8 @@ def main(words):
             "fdbrec_node is not built, and --node names no program. ./fdbrec node builds it;\n"
             "tools/router --node examples/foreign/node does without."
         )
+    if words.room and words.store != "files":
+        raise ending.BadWords("--room goes with files, and --store says memory")
     if words.jobs < 1:
         raise ending.BadWords("--jobs is at least 1")
     room = os.path.abspath(words.dir or tempfile.mkdtemp(prefix="router-"))

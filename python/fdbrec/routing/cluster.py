@@ -26,10 +26,11 @@ class Message:
 
 
 class Cluster:
-    """The nodes of a world, by the seed. `commands` says by which programs each kind of node runs."""
+    """The nodes of a world, by the seed. `commands` says by which programs each kind of node runs, `most` how many
+    bytes a file of a cell or a log may have."""
 
-    def __init__(self, seed, room, commands, has_files):
-        self.seed, self.room, self.commands, self.has_files = seed, room, commands, has_files
+    def __init__(self, seed, room, commands, has_files, most=None):
+        self.seed, self.room, self.commands, self.has_files, self.most = seed, room, commands, has_files, most
         self.config = drawing.config_of(seed)
         self.counts = collections.Counter()
         self.members = Members(room, self.heed, self.counts)
@@ -47,7 +48,8 @@ class Cluster:
         ((kind, _),) = name.items()
         dice = drawing.Dice(self.seed, "program", spoken(name))
         command = dice.choice(self.commands[kind])
-        return self.members.make(name, [*command, kind, *map(str, words)], self.has_files)
+        more = ["--room", self.most] if self.most and kind in ("cell", "log") else []
+        return self.members.make(name, [*command, kind, *map(str, (*words, *more))], self.has_files)
 
     def config_file(self, epoch):
         """The config of an epoch: the world's, with the shape of that generation. It is written once, since nodes that

@@ -53,18 +53,19 @@ def bytes_of(dice, most):
     return bytes(dice.randrange(256) for _ in range(dice.randint(0, most))).hex()
 
 
-def mutation_of(dice):
+def mutation_of(dice, most):
     name = dice.choice(("set", "set", "clear", "compare_and_clear", *COMBINED))
     key = dice.choice(KEYS)
     if name == "clear":
         ends = sorted((key, dice.choice(KEYS)))
         return {"clear": {"begin": ends[0], "end": ends[1]}}
-    value = bytes_of(dice, 3)
+    value = bytes_of(dice, most)
     return {name: {"key": key, "param": value} if name in COMBINED else {"key": key, "value": value}}
 
 
-def batch_of(dice):
-    return [mutation_of(dice) for _ in range(dice.choice([1, 1, 2, 3, 0, 5]))]
+def batch_of(dice, most):
+    """A batch, whose values have up to so many bytes."""
+    return [mutation_of(dice, most) for _ in range(dice.choice([1, 1, 2, 3, 0, 5]))]
 
 
 def kills_of(seed, steps, kills):

@@ -132,7 +132,9 @@ class Members:
             words = dict(zip(it.words, it.words[1:]))
             shape = {name: int(words[f"--{name}"]) for name in ("degree", "logs") if f"--{name}" in words}
             self.act(it, {"begun": shape})
-        elif code != 14:
+        elif code == 14:
+            self.counts["full"] += body["text"] == "Full"
+        else:
             raise Trouble(f"{it.text} answers {given['type']} by error {code}: {body['text']}")
 
     # ---- kills

@@ -117,7 +117,7 @@ class Story(Cluster):
         if found:
             it = dice.choice(found)
             step = dice.choice([1, 1, 1, 2, 3, 50])
-            its = {"batch": drawing.batch_of(dice), "step": step}
+            its = {"batch": drawing.batch_of(dice, self.most // 4 if self.most else 3), "step": step}
             self.members.give(it, {"type": "submit", "at": self.members.stamp} | its)
 
     def do_begin(self, dice, step):
