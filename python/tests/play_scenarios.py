@@ -1,8 +1,9 @@
-"""play_scenarios.py --player FILE [--transcript] [FILE..] | --sample: has a test_scenarios play the rows of scenarios.
+"""play_scenarios.py [--player FILE] [--transcript] [FILE..] | --sample: has a test_scenarios play rows of scenarios.
 
 The files are those of scenarios/, whose README.md says what a row is; none named: all. The program is asked row by row,
-and what it tells is compared here. A line for each scenario says how many of its rows it played, or which one differs;
-the last one, how many that were. The status is 1 where a row differs, cannot be read, or is played by nobody.
+and what it tells is compared here. If no program is named, it is compiled without proofs, and kept. A line for each
+scenario says how many of its rows were played, or which one differs; the last one, how many that were. The status is 1
+where a row differs, cannot be read, or is played by nobody.
 With --transcript nothing is compared: it prints the lines that the program is asked. --sample writes what `rt ci` runs
 the program on, and what it must print: of each word of first rows the scenario with the fewest rows.
 """
@@ -504,6 +505,14 @@ def sample():
 SAMPLE = [f"{scenes.TOP}/crates/test_scenarios/{name}" for name in ("stdin", "stdout")]
 
 
+def compiled():
+    """The program, compiled without proofs if it is not kept; None if it cannot be."""
+    sys.path.insert(0, f"{scenes.TOP}/tools")
+    from launcher import unproved
+
+    return unproved.keep("test_scenarios", lambda said: print(said, file=sys.stderr))
+
+
 def main(words):
     its = argparse.ArgumentParser(usage=__doc__)
     its.add_argument("--player")
@@ -516,8 +525,9 @@ def main(words):
             with open(path, "w", encoding="utf-8") as it:
                 it.write(text)
         return 0
-    if not chosen.player:
-        its.error("--player names no program")
+    player = chosen.player or compiled()
+    if not player:
+        its.error("test_scenarios cannot be compiled, which needs a Rattle kit, and --player names no program")
     files, lines, whole = {}, [], scenes.Count()
     for path in chosen.files or scenes.files():
         try:
@@ -526,9 +536,9 @@ def main(words):
             lines.append(f"{os.path.basename(path)}:{bad.args[0]}: {bad.args[1]}")
     if chosen.transcript:
         for name, found in files.items():
-            print("\n".join([*lines, *play_file(chosen.player, name, found)[2]]))
+            print("\n".join([*lines, *play_file(player, name, found)[2]]))
         return 1 if lines else 0
-    lines += play_files(chosen.player, files, whole)
+    lines += play_files(player, files, whole)
     bad = sum(is_fault(it) for it in lines)
     print("\n".join(lines))
     print(f"{whole} played by test_scenarios; {bad} differ")
