@@ -237,16 +237,20 @@ def place(told):
     return before, behind
 
 
-def kept(told, given):
-    form = written(json.loads(given))
+def in_place(told, form):
     before, behind = place(told)
-    script = before + form + behind
-    return None if read_script(told, script) == script else form_of(told, form)
+    return before + form + behind
 
 
-def read_script(told, script):
+def kept(told, given):
+    script = in_place(told, written(json.loads(given)))
     (text,) = read_scripts(told, [script])
-    return text
+    return None if text == script else form_of(told, text)
+
+
+def read(told, form):
+    (text,) = read_scripts(told, [in_place(told, form)])
+    return form_of(told, text)
 
 
 def read_scripts(told, scripts):
@@ -254,10 +258,10 @@ def read_scripts(told, scripts):
     return told.player.tells(line_of("bytes", written(it.encode().hex())) for it in scripts)
 
 
-def form_of(told, form):
-    """The form that is written of one that was read; as a text where it is not written as JSON is."""
+def form_of(told, text):
+    """The form in its place in a script that is written of one that was read; as a text where it is not written as JSON
+    is."""
     before, behind = place(told)
-    text = read_script(told, before + form + behind)
     if text is None:
         return "bad script"
     if text.startswith(before) and text[len(before) :].endswith(behind):
@@ -270,8 +274,7 @@ def form_of(told, form):
 
 
 def audit_fronts(told, form):
-    before, behind = place(told)
-    script = before + form + behind
+    script = in_place(told, form)
     found = list(read_scripts(told, [script[:at] for at in range(len(script))]))
     return next((at for at, text in enumerate(found) if text is not None), None)
 
@@ -344,7 +347,7 @@ DOES = {
     ("end_tally", "reply"): reply,
     ("end_tally", "state"): end,
     ("audit_script", "kept"): kept,
-    ("audit_script", "read"): form_of,
+    ("audit_script", "read"): read,
     ("audit_script", "fronts"): audit_fronts,
 }
 for COMMAND in ("apply", "end"):
