@@ -16,7 +16,7 @@ sys.path[:0] = [f"{TOP}/tools", f"{TOP}/python"]
 
 from launcher import archive as archives  # noqa: E402
 from launcher import unproved  # noqa: E402
-from tests import play_scenarios  # noqa: E402
+from tests import play_scenarios, scenes  # noqa: E402
 
 
 def skip(why):
@@ -192,8 +192,14 @@ def name_changed_rows(checks, player, text, changes):
     pattern, and what stands in place of what this finds first."""
     for what, pattern, change in share(changes):
         changed, count = re.subn(pattern, change, text, count=1, flags=re.M)
-        lines, _, _ = play_scenarios.play_text(player, "changed.md", changed)
         at = next((n for n, (a, b) in enumerate(zip(text.split("\n"), changed.split("\n")), 1) if a != b), 0)
-        told = [int(it.split(":")[1]) for it in lines if play_scenarios.is_fault(it)]
-        is_so = count == 1 and len(told) == 1 and 0 <= at - told[0] < 12
-        checks.check(is_so, what, "changed in line", at, "is told at", told)
+        checks.check(count == 1 and is_told(player, changed, at), what, "changed in line", at, "is not told")
+
+
+def is_told(player, text, at):
+    """Whether a row that is wrong is told: of a text, the last one that begins in this line or before."""
+    scenario = [it for it in scenes.scenarios(text) if it.line <= at][-1]
+    rows = [it for it in scenes.of_player(scenario) if it.line <= at]
+    with play_scenarios.Player(player) as asked:
+        _, differs = play_scenarios.play(asked, scenario, rows)
+    return differs is not None and differs[0] == rows[-1].line

@@ -134,9 +134,10 @@ CALLS = {
 } | {(kind, "state"): state for kind in ("cell", "log", "sequencer", "proxy", "recoverer")}
 
 
-def play(scenario):
-    """Plays a scenario: how many rows were played, and (line, told, wanted) of the first that differs."""
-    rows, count = scenes.of_library(scenario), 0
+def play(scenario, rows=None):
+    """Plays a scenario, or these rows of it: how many were played, and (line, told, wanted) of the first that does not
+    hold."""
+    rows, count = scenes.of_library(scenario) if rows is None else rows, 0
     if not rows:
         return 0, None
     with made(scenario.about, scenes.value(scenario.rows[0].given)) as machine:
@@ -158,8 +159,9 @@ def tell_changes(paths):
     """Of each kind of row one in which something else is wanted is told, in its line."""
     kinds = scenes.kinds(scenes.of_library, paths)
     bad = 0
-    for name, scenario, row in kinds:
-        _, differs = play(scenes.changed(scenario, row))
+    for name, scenario, rows in kinds:
+        (changed,), row = scenes.changed(rows), rows[-1]
+        _, differs = play(scenario, changed)
         if differs is None or differs[0] != row.line:
             bad += 1
             print(f"{name}:{row.line}: {row.word} of {scenario.about}: another value that is wanted is not told")

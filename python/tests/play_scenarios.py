@@ -1,8 +1,9 @@
-"""play_scenarios.py --player FILE [--transcript] [FILE..] | --sample: has a test_scenarios play the rows of scenarios.
+"""play_scenarios.py [--player FILE] [--transcript] [FILE..] | --sample: has a test_scenarios play rows of scenarios.
 
 The files are those of scenarios/, whose README.md says what a row is; none named: all. The program is asked row by row,
-and what it tells is compared here. A line for each scenario says how many of its rows it played, or which one differs;
-the last one, how many that were. The status is 1 where a row differs, cannot be read, or is played by nobody.
+and what it tells is compared here. If no program is named, it is compiled without proofs, and kept. A line for each
+scenario says how many of its rows were played, or which one differs; the last one, how many that were. The status is 1
+where a row differs, cannot be read, or is played by nobody.
 With --transcript nothing is compared: it prints the lines that the program is asked. --sample writes what `rt ci` runs
 the program on, and what it must print: of each word of first rows the scenario with the fewest rows.
 """
@@ -11,6 +12,7 @@ from __future__ import annotations
 
 import argparse
 import concurrent.futures
+import itertools
 import json
 import os
 import subprocess
@@ -21,6 +23,8 @@ sys.path.insert(0, os.path.dirname(os.path.dirname(os.path.realpath(__file__))))
 from tests import scenes
 
 JOBS = min(4, len(os.sched_getaffinity(0)))
+# bytes that are written before an answer is read: a pipe of Linux holds twice as many, however they are cut
+AHEAD = 2**15
 
 
 class Unplayed(Exception):
@@ -44,29 +48,43 @@ class Player:
         self.process.stderr.close()
         self.process.wait()
 
-    def put(self, line):
-        self.asked.append(line)
-        self.process.stdin.write(f"{line}\n".encode())
+    def says(self, lines):
+        """What it answers to lines, one after the other; an empty line has no answer. Many are written before the first
+        answer is read: as many as a pipe holds."""
+        ahead, size = [], 0
+        for line in lines:
+            if ahead and size + len(line) > AHEAD:
+                yield from self.answers(ahead)
+                ahead, size = [], 0
+            ahead.append(line)
+            size += len(line) + 1
+        yield from self.answers(ahead)
 
-    def say(self, line):
-        """What it answers to a line."""
-        self.put(line)
+    def answers(self, lines):
+        """Its answers to lines that fit into a pipe. All of them are read before the first one is given."""
+        self.asked += lines
+        self.process.stdin.write("".join(f"{it}\n" for it in lines).encode())
         self.process.stdin.flush()
-        said = self.process.stdout.readline().decode()
-        if not said.endswith("\n"):
-            raise Unplayed(f"test_scenarios ended: {self.process.stderr.read().decode().strip()}")
-        if said.startswith("! "):
-            raise Unplayed(said[2:].strip())
-        return said
+        for said in [self.process.stdout.readline().decode() for line in lines if line]:
+            if not said.endswith("\n"):
+                raise Unplayed(f"test_scenarios ended: {self.process.stderr.read().decode().strip()}")
+            if said.startswith("! "):
+                raise Unplayed(said[2:].strip())
+            yield said[:-1]
 
     def make(self, word, given=""):
-        """Ends the scenario before, and begins one."""
-        self.put("")
-        self.say(f"{word} {given}".strip())
+        """Ends the scenario before, and begins one: what it answers."""
+        (said,) = self.says(["", line_of(word, given)])
+        return said
+
+    def tells(self, lines):
+        """What it tells in rows."""
+        return map(json.loads, self.says(lines))
 
     def tell(self, word, given=""):
         """What it tells in a row."""
-        return json.loads(self.say(f"{word} {given}".strip()))
+        (told,) = self.tells([line_of(word, given)])
+        return told
 
     def tell_of(self, word, it):
         return self.tell(word, "" if it is None else written(it))
@@ -75,6 +93,10 @@ class Player:
         """Whether it ends well once there are no more rows."""
         self.process.stdin.close()
         return self.process.wait() == 0
+
+
+def line_of(word, given=""):
+    return f"{word} {given}".strip()
 
 
 def written(it):
@@ -91,29 +113,45 @@ class Told:
     def __init__(self, player, first):
         self.player, self.first, self.replies = player, first, []
 
-    def row(self, word, given):
-        """What comes of a row."""
-        does = DOES.get((self.first.word, word)) or DOES.get(("*", word))
-        return does(self, given) if does else self.player.tell(word, given)
+    def does(self, row):
+        """What plays a row that the program is not asked as it stands."""
+        return DOES.get((self.first.word, row.word)) or DOES.get(("*", row.word))
+
+    def rows(self, rows):
+        """What comes of rows, one after the other. Those that are asked as they stand are asked at once."""
+        for does, some in itertools.groupby(rows, self.does):
+            if does is None:
+                yield from self.player.tells([line_of(row.word, row.given) for row in some])
+            else:
+                for row in some:
+                    yield does(self, row.given)
 
 
 # Scripts of commands.
 
 
-def ran(told, script):
-    """What comes of a script: the fault, or none, and the lines that it prints. It is run once more with a member in
-    front of its first one, which that one replaces, so that it is read by way of the tree of its JSON."""
-    fault, text = told.player.tell_of("bytes", script.hex())
+def ran(told, scripts):
+    """What comes of scripts: of each the fault, or none, and the lines that it prints. One is run once more with a
+    member in front of its first one, which that one replaces, so that it is read by way of the tree of its JSON."""
     member = b'{"ops":0,' if told.first.word == "apply" else b'{"replies":0,'
-    if script.startswith(b"{") and told.player.tell_of("bytes", (member + script[1:]).hex()) != [fault, text]:
-        raise Unplayed("read by way of the tree of its JSON it is another script")
-    if fault == "bad script" and text:
-        raise Unplayed("a script that is none prints something")
-    return fault, text
+    asked = []
+    for script in scripts:
+        asked.append(line_of("bytes", written(script.hex())))
+        if script.startswith(b"{"):
+            asked.append(line_of("bytes", written((member + script[1:]).hex())))
+    found, answers = [], told.player.tells(asked)
+    for script in scripts:
+        fault, text = next(answers)
+        if script.startswith(b"{") and next(answers) != [fault, text]:
+            raise Unplayed(f"read by way of the tree of its JSON it is another script: {script}")
+        if fault == "bad script" and text:
+            raise Unplayed(f"a script that is none prints something: {script}")
+        found.append((fault, text))
+    return found
 
 
 def run(told, script):
-    fault, text = ran(told, script)
+    ((fault, text),) = ran(told, [script])
     if fault is not None:
         return fault
     if text and not text.endswith("\n"):
@@ -122,23 +160,23 @@ def run(told, script):
 
 
 def fronts(told, script):
-    for length in range(len(script)):
-        if ran(told, script[:length])[0] != "bad script":
-            return length
-    return None
+    found = ran(told, [script[:length] for length in range(len(script))])
+    return next((length for length, (fault, _) in enumerate(found) if fault != "bad script"), None)
+
+
+def others(right):
+    """Bytes in which each one is changed to each value: its place, and what they are then."""
+    return [(at, right[:at] + bytes([byte]) + right[at + 1 :]) for at in range(len(right)) for byte in range(256)]
 
 
 def changed(told, script):
     """Each byte of a script is changed to each other one, and read both ways."""
-    for at in range(len(script)):
-        for byte in range(256):
-            ran(told, script[:at] + bytes([byte]) + script[at + 1 :])
+    ran(told, [it for _, it in others(script)])
 
 
 def without(told, script):
     """Each byte of a script is taken out, and the rest read both ways."""
-    for at in range(len(script)):
-        ran(told, script[:at] + script[at + 1 :])
+    ran(told, [script[:at] + script[at + 1 :] for at in range(len(script))])
 
 
 # Replies to a lock, of which `end` prints what end follows.
@@ -171,20 +209,19 @@ def end_in(line):
 
 def misread(told, given):
     """None if bytes that are changed are refused, or read as what they spell; else a place and its byte."""
-    right, about = bytes.fromhex(json.loads(given)), told.first.word
-    read = []
-    for at in range(len(right)):
-        for byte in range(256):
-            wrong = right[:at] + bytes([byte]) + right[at + 1 :]
-            it = told.player.tell_of("read", wrong.hex())
-            if not isinstance(it, str):
-                read.append(((at, byte), wrong, it))
-    for place, wrong, it in read:
-        content, used = (it["batch"], it["used"]) if about == "batch" else (it, len(wrong))
-        told.player.make(about, written(content))
-        if told.player.tell("bytes") != wrong[:used].hex():
-            return list(place)
-    told.player.make(about, told.first.given)
+    about, tried = told.first.word, others(bytes.fromhex(json.loads(given)))
+    answers = told.player.tells(line_of("read", written(wrong.hex())) for _, wrong in tried)
+    read = [(at, wrong, it) for (at, wrong), it in zip(tried, answers) if not isinstance(it, str)]
+    asked = []
+    for _, _, it in read:
+        asked += ["", line_of(about, written(it["batch"] if about == "batch" else it)), "bytes"]
+    answers = told.player.says([*asked, "", line_of(about, told.first.given)])
+    for at, wrong, it in read:
+        made, spelled = next(answers), json.loads(next(answers))
+        used = it["used"] if about == "batch" else len(wrong)
+        if made != "made" or spelled != wrong[:used].hex():
+            list(answers)
+            return [at, wrong[at]]
     return None
 
 
@@ -200,21 +237,31 @@ def place(told):
     return before, behind
 
 
+def in_place(told, form):
+    before, behind = place(told)
+    return before + form + behind
+
+
 def kept(told, given):
-    form = written(json.loads(given))
+    script = in_place(told, written(json.loads(given)))
+    (text,) = read_scripts(told, [script])
+    return None if text == script else form_of(told, text)
+
+
+def read(told, form):
+    (text,) = read_scripts(told, [in_place(told, form)])
+    return form_of(told, text)
+
+
+def read_scripts(told, scripts):
+    """What is written of scripts, of each that is one."""
+    return told.player.tells(line_of("bytes", written(it.encode().hex())) for it in scripts)
+
+
+def form_of(told, text):
+    """The form in its place in a script that is written of one that was read; as a text where it is not written as JSON
+    is."""
     before, behind = place(told)
-    script = before + form + behind
-    return None if read_script(told, script) == script else form_of(told, form)
-
-
-def read_script(told, script):
-    return told.player.tell_of("bytes", script.encode().hex())
-
-
-def form_of(told, form):
-    """The form that is written of one that was read; as a text where it is not written as JSON is."""
-    before, behind = place(told)
-    text = read_script(told, before + form + behind)
     if text is None:
         return "bad script"
     if text.startswith(before) and text[len(before) :].endswith(behind):
@@ -227,9 +274,9 @@ def form_of(told, form):
 
 
 def audit_fronts(told, form):
-    before, behind = place(told)
-    script = before + form + behind
-    return next((at for at in range(len(script)) if read_script(told, script[:at]) is not None), None)
+    script = in_place(told, form)
+    found = list(read_scripts(told, [script[:at] for at in range(len(script))]))
+    return next((at for at, text in enumerate(found) if text is not None), None)
 
 
 # Files of which each call of the device fails in turn.
@@ -300,7 +347,7 @@ DOES = {
     ("end_tally", "reply"): reply,
     ("end_tally", "state"): end,
     ("audit_script", "kept"): kept,
-    ("audit_script", "read"): form_of,
+    ("audit_script", "read"): read,
     ("audit_script", "fronts"): audit_fronts,
 }
 for COMMAND in ("apply", "end"):
@@ -336,35 +383,55 @@ def begins(first):
     return [(it, given) for it in BEGUN.get(word, [word])]
 
 
-def play(player, scenario):
-    """Plays a scenario: how many rows were compared, and of the first that differs its line and what is said of it."""
-    rows, count = scenes.of_player(scenario), 0
+def play(player, scenario, rows=None):
+    """Plays a scenario, or these rows of it: how many were compared, and of the first that differs its line and what is
+    said of it. Each row is compared once more with something else that is wanted, which must differ."""
+    rows = scenes.of_player(scenario) if rows is None else rows
+    wanted = [written(json.loads(row.wanted)) for row in rows]
     for word, given in begins(scenario.rows[0]) if rows else []:
-        line, count = scenario.rows[0].line, 0
-        try:
-            player.make(word, given)
-            told = Told(player, scenario.rows[0])
-            for row in rows:
-                line = row.line
-                said, wanted = written(told.row(row.word, row.given)), written(json.loads(row.wanted))
-                if said != wanted:
-                    return count, (line, f"told {said}\n    wanted {wanted}")
-                count += 1
-        except Unplayed as why:
-            return count, (line, str(why))
-        except (ValueError, KeyError, TypeError) as why:
-            return count, (line, f"this is not in the form that scenarios/README.md gives it: {why!r}")
-    return count, None
+        told, fault = told_of(player, scenario.rows[0], word, given, rows)
+        at = differing(told, wanted)
+        if at is not None:
+            return at, (rows[at].line, f"told {told[at]}\n    wanted {wanted[at]}")
+        if fault:
+            return len(told), fault
+        for other in changes_untold(told, rows, wanted):
+            return other, (rows[other].line, "something else that is wanted does not differ")
+    return len(rows), None
 
 
-def play_text(program, name, text):
-    """Plays a file: the lines that are said of it, how many scenarios and rows were compared, and the lines that the
-    program was asked."""
-    lines, count = [], scenes.Count()
+def told_of(player, first, word, given, rows):
+    """What comes of rows, as texts, up to one that cannot be played: its line and why."""
+    told, is_made = [], False
     try:
-        found = scenes.scenarios(text)
-    except scenes.Bad as bad:
-        return [f"{name}:{bad.args[0]}: {bad.args[1]}"], count, []
+        is_made = player.make(word, given) == "made"
+        for said in Told(player, first).rows(rows):
+            told.append(written(said))
+        return told, None
+    except Unplayed as fault:
+        why = str(fault)
+    except (ValueError, KeyError, TypeError) as fault:
+        why = f"this is not in the form that scenarios/README.md gives it: {fault!r}"
+    return told, (rows[len(told)].line if is_made else first.line, why)
+
+
+def differing(told, wanted):
+    """The first place at which something else is told than is wanted."""
+    return next((at for at, (one, other) in enumerate(zip(told, wanted)) if one != other), None)
+
+
+def changes_untold(told, rows, wanted):
+    """The places of rows that do not differ alone where something else is wanted of them."""
+    for at, row in enumerate(rows):
+        others = [*wanted[:at], written(json.loads(scenes.other(row).wanted)), *wanted[at + 1 :]]
+        if differing(told, others) != at:
+            yield at
+
+
+def play_file(program, name, found):
+    """Plays scenarios of a file: the lines that are said of it, how many scenarios and rows were compared, and the
+    lines that the program was asked."""
+    lines, count = [], scenes.Count()
     with Player(program) as player:
         for scenario in found:
             played, differs = play(player, scenario)
@@ -385,13 +452,25 @@ def is_fault(line):
     return line.split(": ")[0].rpartition(":")[2].isdigit()
 
 
+def play_files(program, files, whole):
+    """Has a built test_scenarios play scenarios, by the names of their files: the lines that are said of them. What is
+    played is added to a count."""
+    program = os.path.abspath(program)
+    order = sorted(files, key=lambda name: -sum(scenes.cost(it.rows) for it in files[name]))
+    with concurrent.futures.ThreadPoolExecutor(JOBS) as pool:
+        said = dict(zip(order, pool.map(lambda name: play_file(program, name, files[name]), order)))
+    for _, count, _ in said.values():
+        whole.scenarios, whole.rows = whole.scenarios + count.scenarios, whole.rows + count.rows
+    return [line for name in files for line in said[name][0]]
+
+
 def played(program, pages):
     """Has a built test_scenarios play texts of scenarios, by their names: of each the lines that tell what differs, if
     there are some."""
-    with concurrent.futures.ThreadPoolExecutor(JOBS) as pool:
-        all_lines = pool.map(lambda it: play_text(os.path.abspath(program), *it)[0], pages.items())
-        faults = {name: [it for it in lines if is_fault(it)] for name, lines in zip(pages, all_lines)}
-    return {name: "\n".join(lines).split("\n") for name, lines in faults.items() if lines}
+    files = {name: scenes.scenarios(text) for name, text in pages.items()}
+    faults = [it for it in play_files(program, files, scenes.Count()) if is_fault(it)]
+    found = {name: [it for it in faults if it.startswith(f"{name}:")] for name in pages}
+    return {name: "\n".join(lines).split("\n") for name, lines in found.items() if lines}
 
 
 def names():
@@ -402,8 +481,8 @@ def names():
 
 def transcript(program, name):
     """The lines that the program is asked where a file of scenarios is played, as bytes."""
-    (text,) = texts([f"{scenes.SCENARIOS}/{name}"])
-    return "".join(f"{it}\n" for it in play_text(program, *text)[2]).encode()
+    asked = play_file(program, name, scenes.read(f"{scenes.SCENARIOS}/{name}"))[2]
+    return "".join(f"{it}\n" for it in asked).encode()
 
 
 def sample():
@@ -429,20 +508,12 @@ def sample():
 SAMPLE = [f"{scenes.TOP}/crates/test_scenarios/{name}" for name in ("stdin", "stdout")]
 
 
-def texts(paths):
-    for path in paths:
-        with open(path, encoding="utf-8") as it:
-            yield os.path.basename(path), it.read()
+def compiled():
+    """The program, compiled without proofs if it is not kept; None if it cannot be."""
+    sys.path.insert(0, f"{scenes.TOP}/tools")
+    from launcher import unproved
 
-
-def play_files(program, paths, whole):
-    """Plays files: the lines that are said of them. What is played is added to a count."""
-    every = []
-    with concurrent.futures.ThreadPoolExecutor(JOBS) as pool:
-        for lines, count, _ in pool.map(lambda it: play_text(program, *it), texts(paths)):
-            every += lines
-            whole.scenarios, whole.rows = whole.scenarios + count.scenarios, whole.rows + count.rows
-    return every
+    return unproved.keep("test_scenarios", lambda said: print(said, file=sys.stderr))
 
 
 def main(words):
@@ -452,19 +523,25 @@ def main(words):
     its.add_argument("--sample", action="store_true")
     its.add_argument("files", nargs="*")
     chosen = its.parse_args(words)
-    paths, whole = chosen.files or scenes.files(), scenes.Count()
     if chosen.sample:
         for path, text in zip(SAMPLE, sample()):
             with open(path, "w", encoding="utf-8") as it:
                 it.write(text)
         return 0
-    if not chosen.player:
-        its.error("--player names no program")
+    player = chosen.player or compiled()
+    if not player:
+        its.error("test_scenarios cannot be compiled, which needs a Rattle kit, and --player names no program")
+    files, lines, whole = {}, [], scenes.Count()
+    for path in chosen.files or scenes.files():
+        try:
+            files[os.path.basename(path)] = scenes.read(path)
+        except scenes.Bad as bad:
+            lines.append(f"{os.path.basename(path)}:{bad.args[0]}: {bad.args[1]}")
     if chosen.transcript:
-        for name, text in texts(paths):
-            print("\n".join(play_text(chosen.player, name, text)[2]))
-        return 0
-    lines = play_files(chosen.player, paths, whole)
+        for name, found in files.items():
+            print("\n".join([*lines, *play_file(player, name, found)[2]]))
+        return 1 if lines else 0
+    lines += play_files(player, files, whole)
     bad = sum(is_fault(it) for it in lines)
     print("\n".join(lines))
     print(f"{whole} played by test_scenarios; {bad} differ")

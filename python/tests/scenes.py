@@ -39,6 +39,9 @@ APART = {
     "recoverer": {"hear", "generation", "copied", "made"},
 }
 
+# How many times a row has its bytes read.
+EACH_BYTE = {"changed": 512, "without": 100, "fronts": 100, "sweep": 100}
+
 
 class Row(NamedTuple):
     """A row: its line, its word, what is given with it, and what is wanted, as texts; None if it has no arrow."""
@@ -200,33 +203,49 @@ def counts(paths=None):
     return every, player, library, alone, nobody
 
 
+def cost(rows):
+    """About how long rows take, in bytes that the program is asked."""
+    return sum(len(row.given) * EACH_BYTE.get(row.word, 1) + len(row.wanted or "") for row in rows)
+
+
 def kinds(rows_of, paths=None):
-    """Of each kind of row, by the words of the first row and of its own, the first one: the name of its file, its
-    scenario, and the row. `rows_of` are those of a scenario that are looked at."""
+    """Of each kind of row, by the words of the first row and of its own, the one with the least before it: the name of
+    its file, its scenario, and the rows up to it. `rows_of` are those of a scenario that are looked at."""
     found = {}
     for path in paths or files():
         for scenario in read(path):
-            for row in rows_of(scenario):
-                found.setdefault((scenario.about, row.word), (os.path.basename(path), scenario, row))
-    return list(found.values())
+            rows = rows_of(scenario)
+            for at, row in enumerate(rows, 1):
+                kind, price = (scenario.about, row.word), cost(rows[:at])
+                if kind not in found or price < found[kind][0]:
+                    found[kind] = (price, (os.path.basename(path), scenario, rows[:at]))
+    return [it for _, it in found.values()]
 
 
-def changed(scenario, row):
-    """A scenario in which something else is wanted of a row."""
-    return scenario._replace(rows=[other(it) if it is row else it for it in scenario.rows])
+def changed(rows):
+    """Rows in which something else is wanted of the last one: in its answer, and of a sweep in those within it."""
+    yield [*rows[:-1], other(rows[-1])]
+    if rows[-1].word == "sweep":
+        it = json.loads(rows[-1].given)
+        for name, at in (("asks", 0), ("asks", -1), ("then", 0), ("then", -1)):
+            asks = [list(ask) for ask in it[name]]
+            asks[at][2] = another(asks[at][2])
+            yield [*rows[:-1], rows[-1]._replace(given=json.dumps({**it, name: asks}))]
 
 
 def other(row):
-    it = json.loads(row.wanted)
+    """A row of which something else is wanted."""
+    return row._replace(wanted=json.dumps(another(json.loads(row.wanted))))
+
+
+def another(it):
     if isinstance(it, bool) or it is None:
-        it = not it
-    elif isinstance(it, list):
-        it = [*it, 0]
-    elif isinstance(it, dict):
-        it = {**it, "other": 0}
-    else:
-        it = it + 1 if isinstance(it, int) else f"{it}0"
-    return row._replace(wanted=json.dumps(it))
+        return not it
+    if isinstance(it, list):
+        return [*it, 0]
+    if isinstance(it, dict):
+        return {**it, "other": 0}
+    return it + 1 if isinstance(it, int) else f"{it}0"
 
 
 def value(text):
