@@ -1,15 +1,14 @@
 //! Batches and coordinated states, and their bytes.
-use crate::asks::RowAsk;
 use crate::forms::write_generation;
 use crate::lines::Subject;
 use crate::telling::{RowTold, done, named, no_such_word, told, write};
-use crate::wrong::Wrong;
 use fr_base::{Bytes, Memory};
 use fr_forms::Object;
 use fr_mutation::Batch;
 use fr_state::CoordState;
 use serde_json::Value;
 use std::alloc::Global;
+use test_asks::{RowAsk, Wrong};
 
 /// A batch.
 pub(crate) fn read_batch(row: &mut RowAsk) -> Result<Batch, Wrong> {

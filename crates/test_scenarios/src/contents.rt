@@ -1,14 +1,13 @@
 //! Rows without a store, on which batches act; and shards, of which batches are parts.
-use crate::asks::RowAsk;
 use crate::lines::Subject;
 use crate::telling::{RowTold, no_such_word, told, write};
-use crate::wrong::{NO_FORM, Wrong};
 use fr_base::{Bytes, Memory};
 use fr_forms::Object;
 use fr_mutation::{Batch, MAX_KEY, Shard, apply, clip};
 use serde_json::Value;
 use std::alloc::Global;
 use std::collections::BTreeMap;
+use test_asks::{NO_FORM, RowAsk, Wrong};
 
 /// Keys and their values.
 pub(crate) type Rows = BTreeMap<Bytes, Bytes>;

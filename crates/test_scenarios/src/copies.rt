@@ -1,8 +1,6 @@
 //! What nodes are asked and tell, their last states and their names: some of a kind, copied and told apart.
-use crate::asks::{RowAsk, items, read_as};
 use crate::lines::Subject;
 use crate::telling::{RowTold, no_such_word, told};
-use crate::wrong::{NO_FORM, Wrong};
 use fr_ask::{Ask, Last, Tell};
 use fr_base::{Memory, NodeId};
 use fr_forms::{Formed, write_all};
@@ -10,6 +8,7 @@ use fr_log::{LogAsk, LogTell, Peeked, PeekedRecord, Push, Seed, SeedRecord};
 use serde_json::Value;
 use std::alloc::Global;
 use std::cmp::Ordering;
+use test_asks::{NO_FORM, RowAsk, Wrong, items, read_as};
 
 /// What is copied and has a form.
 pub(crate) trait Copied: Formed {

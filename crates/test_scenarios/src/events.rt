@@ -1,13 +1,12 @@
 //! Events of a world, by the words of rows.
-use crate::asks::{RowAsk, read_as};
 use crate::forms::read_shape;
 use crate::found;
 use crate::telling::RowTold;
-use crate::wrong::{NO_FORM, Wrong};
 use fr_ask::{Ask, Tell};
 use fr_base::{LogId, NodeId};
 use fr_world::{Config, ConfigFault, Event, World};
 use serde_json::Value;
+use test_asks::{NO_FORM, RowAsk, Wrong, read_as};
 
 /// What a world starts from.
 pub(crate) fn read_config(row: &mut RowAsk) -> Result<Config, Wrong> {

@@ -1,9 +1,7 @@
 //! Forms that several subjects read and write.
 ghost use Rattle.std.specs.Prelude.{◌≤◌, IfOk};
 
-use crate::asks::RowAsk;
 use crate::telling::{RowTold, told};
-use crate::wrong::{NO_FORM, Wrong};
 use fr_ask::{Last, Named};
 use fr_base::{LogId, Memory, Shape};
 use fr_cli_json::tree::into_one_member;
@@ -13,6 +11,7 @@ use fr_state::{CoordState, Generation};
 use fr_tags::MAX_LOGS;
 use serde_json::Value;
 use std::alloc::Global;
+use test_asks::{NO_FORM, RowAsk, Wrong};
 
 /// How many logs a generation has, and on how many of them each tag is.
 pub(crate) fn read_sizes(row: &mut RowAsk) -> Result<(u8, u8), Wrong>

@@ -1,8 +1,8 @@
 //! Asks and tells that were given in a world.
-use crate::wrong::Wrong;
 use fr_ask::{Ask, Tell};
 use fr_base::NodeId;
 use fr_world::{Turn, World};
+use test_asks::Wrong;
 
 const NO_TELL: Wrong = Wrong::Form("the one node told the other nothing of this number");
 

@@ -1,11 +1,9 @@
 //! Nodes with their journals, in memory and over files.
 ghost use Rattle.std.specs.Prelude.{◌≡◌, false, IfOk, None};
 
-use crate::asks::RowAsk;
 use crate::forms::read_log;
 use crate::lines::Subject;
 use crate::telling::{RowTold, no_such_word, told};
-use crate::wrong::{NO_FORM, Wrong};
 use fr_audit_journal::{Act, CallFault, Entry, Housable, Housed, Journal};
 use fr_base::{InMemory, LogId, Machine, Memory, Node, NodeFault, NodeId, Stamp};
 use fr_forms::{Formed, Object};
@@ -17,6 +15,7 @@ use fr_record_node::CellNode;
 use fr_register::Cell;
 use serde_json::Value;
 use std::alloc::Global;
+use test_asks::{NO_FORM, RowAsk, Wrong};
 
 /// How many bytes the device of a file has room for.
 const ROOM: usize = 10_000;

@@ -1,9 +1,8 @@
 //! Rows, read line by line and answered line by line, and what plays them.
-use crate::asks::RowAsk;
 use crate::telling::RowTold;
-use crate::wrong::{Wrong, said};
 use serde_json::Value;
 use std::alloc::{AllocError, Global};
+use test_asks::{RowAsk, Wrong, said};
 
 /// What a scenario is about.
 pub(crate) trait Subject {
@@ -170,13 +169,4 @@ fn text_of_told(alloc: Global, told: RowTold) -> Result<Vec<u8>, Wrong> {
 
 fn text_of(alloc: Global, value: &Value) -> Result<Vec<u8>, Wrong> {
     Ok(value.to_vec(alloc)?)
-}
-
-/// The JSON that a text is.
-pub(crate) fn json_of(alloc: Global, text: &str) -> RowTold {
-    match Value::from_slice(alloc, text.as_bytes()) {
-        Ok(value) => Ok(value),
-        Err(error) if error.is_memory() => Err(Wrong::Memory),
-        Err(_) => Err(Wrong::Form("this is no JSON")),
-    }
 }

@@ -2,12 +2,10 @@
 //! generation that it opens, and what each was made with.
 ghost use Rattle.std.specs.Prelude.{◌≡◌, OnOk};
 
-use crate::asks::RowAsk;
 use crate::forms::{members, read_log, read_shape, read_sizes, write_generation, write_state_of};
 use crate::lines::Subject;
 use crate::shards::read_map;
 use crate::telling::{RowTold, no_such_word, told, write};
-use crate::wrong::Wrong;
 use fr_base::{Epoch, Machine, Memory};
 use fr_epoch::Recoverer;
 use fr_forms::write_all;
@@ -17,6 +15,7 @@ use fr_proxy::Proxy;
 use fr_tags::ShardMap;
 use serde_json::Value;
 use std::alloc::Global;
+use test_asks::{RowAsk, Wrong};
 
 /// A log that was never asked.
 pub(crate) fn read_any_log(row: &mut RowAsk) -> Result<Log, Wrong> {

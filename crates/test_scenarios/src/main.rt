@@ -3,7 +3,6 @@
 //! tests/scenarios writes the rows, and compares. The status is 1 if the example does not come out.
 #![tactic(auto)]
 
-mod asks;
 mod bytes;
 mod contents;
 mod copies;
@@ -25,18 +24,16 @@ mod stores;
 mod tallies;
 mod telling;
 mod worlds;
-mod wrong;
 
-use crate::asks::RowAsk;
 use crate::lines::Again::{Never, SeenBy};
 use crate::lines::{Lines, row_of};
 use crate::nodes::{CellFile, LogFile};
 use crate::records::RecordFile;
 use crate::scripts::AuditScript;
-use crate::wrong::Wrong;
 use fr_ask::{Ask, Last, Tell};
 use fr_base::NodeId;
 use std::process::ExitCode;
+use test_asks::{RowAsk, Wrong};
 
 fn main(rt: HostRuntime) -> anyhow::Result<ExitCode> {
     play_all(&Lines::new(&rt))?;

@@ -1,9 +1,7 @@
 //! Cells and logs over record files.
-use crate::asks::RowAsk;
 use crate::forms::{read_log, write_last_state};
 use crate::place::{Disk, Kept};
 use crate::telling::{RowTold, named, no_such_word, told};
-use crate::wrong::Wrong;
 use fr_ask::Named;
 use fr_base::{Machine, Node, NodeFault};
 use fr_forms::Formed;
@@ -12,6 +10,7 @@ use fr_record_log::LogNode;
 use fr_record_node::FileNode;
 use fr_register::Cell;
 use std::alloc::Global;
+use test_asks::{RowAsk, Wrong};
 
 /// A cell over a file.
 #[derive(Drop)]

@@ -1,13 +1,12 @@
 //! Devices in memory, and the files that are on them.
-use crate::asks::RowAsk;
 use crate::counting::Counting;
 use crate::lines::Subject;
 use crate::telling::{RowTold, done, named, no_such_word, told};
-use crate::wrong::{NO_FORM, Wrong, said};
 use fr_base::{Bytes, NodeFault};
 use fr_record::{Device, FaultyDevice, MemoryDevice};
 use serde_json::Value;
 use std::alloc::Global;
+use test_asks::{NO_FORM, RowAsk, Wrong, said};
 
 /// A device under a file: it can fail in a call, and its calls and syncs are counted.
 pub(crate) type Disk = Counting<FaultyDevice<MemoryDevice>>;

@@ -1,14 +1,13 @@
 //! Record files.
 ghost use Rattle.std.specs.Prelude.{◌<◌, ◌^◌, All, IfOk, length};
 
-use crate::asks::RowAsk;
 use crate::place::{Disk, Kept};
 use crate::telling::{RowTold, done, no_such_word, told};
-use crate::wrong::{NO_FORM, Wrong};
 use fr_base::{Bytes, NodeFault};
 use fr_record::{RecordFault, Records};
 use serde_json::Value;
 use std::alloc::Global;
+use test_asks::{NO_FORM, RowAsk, Wrong};
 
 /// A record file.
 #[derive(Drop)]

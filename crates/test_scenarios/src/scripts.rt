@@ -1,10 +1,8 @@
 //! Scripts of the commands that run from a script alone, and what these print; and scripts of audits, and what is written
 //! of one that was read.
-use crate::asks::RowAsk;
 use crate::forms::read_sizes;
 use crate::lines::Subject;
 use crate::telling::{RowTold, no_such_word};
-use crate::wrong::{NO_FORM, Wrong};
 use fr_base::Bytes;
 use fr_cli_apply::{ApplyOptions, StoreKind, run_apply};
 use fr_cli_end::{EndOptions, run_end};
@@ -13,6 +11,7 @@ use fr_forms::text_value;
 use fr_script::audit::{ScriptFault, read_script, write_script};
 use serde_json::Value;
 use std::alloc::Global;
+use test_asks::{NO_FORM, RowAsk, Wrong};
 
 /// A command.
 #[derive(Clone, Copy)]

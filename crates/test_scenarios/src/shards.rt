@@ -1,16 +1,15 @@
 //! Shards, which mutations concern which, and which logs hold which tag.
-use crate::asks::RowAsk;
 use crate::contents::write_shard;
 use crate::forms::read_sizes;
 use crate::lines::Subject;
 use crate::telling::{RowTold, done, no_such_word, told};
-use crate::wrong::Wrong;
 use fr_base::{Bytes, Memory};
 use fr_forms::write_all;
 use fr_mutation::{Batch, Shard};
 use fr_tags::{ShardFault, ShardMap, covers, holders, is_held};
 use serde_json::Value;
 use std::alloc::Global;
+use test_asks::{RowAsk, Wrong};
 
 /// How the keys are cut into shards.
 pub(crate) fn read_map(row: &mut RowAsk) -> Result<ShardMap, Wrong> {

@@ -1,10 +1,8 @@
 //! Storage servers, over a store in memory, and over one that fails once.
-use crate::asks::{RowAsk, items};
 use crate::contents::read_shard;
 use crate::lines::Subject;
 use crate::stores;
 use crate::telling::{RowTold, done, named, no_such_word, told, write};
-use crate::wrong::{NO_FORM, Wrong, said};
 use fr_ask::{Ask, Tell};
 use fr_base::Memory;
 use fr_forms::Object;
@@ -12,6 +10,7 @@ use fr_storage::{LogAnswer, Storage, StorageFault};
 use fr_undo::{MapStore, ShardStore, StoreFault};
 use serde_json::Value;
 use std::alloc::Global;
+use test_asks::{NO_FORM, RowAsk, Wrong, items, said};
 use test_store::FailsOnce;
 
 /// A storage server that applied nothing yet.

@@ -1,10 +1,8 @@
 //! Stores in memory and in tables, and stores over a device that fails once.
-use crate::asks::RowAsk;
 use crate::contents::read_shard;
 use crate::lines::Subject;
 use crate::storages::standing_of;
 use crate::telling::{RowTold, done, named, no_such_word, told, write};
-use crate::wrong::Wrong;
 use fr_base::{Bytes, Memory};
 use fr_forms::Object;
 use fr_sql_store::SqlStore;
@@ -14,6 +12,7 @@ use serde_json::Value;
 use sqlite::MemStore;
 use std::alloc::Global;
 use std::mem::replace;
+use test_asks::{RowAsk, Wrong};
 use test_store::FailsOnce;
 
 /// A store in tables in memory.

@@ -1,9 +1,7 @@
 //! What is counted until it is enough: the answers of cells to a ballot, and what an epoch takes over.
-use crate::asks::RowAsk;
 use crate::forms::{members, read_sizes};
 use crate::lines::Subject;
 use crate::telling::{RowTold, done, named, no_such_word, told, twice};
-use crate::wrong::{NO_FORM, Wrong};
 use fr_ask::{Ask, Tell};
 use fr_base::{LogId, Memory, Version};
 use fr_forms::{Object, text_value};
@@ -13,6 +11,7 @@ use fr_tags::MAX_SHARDS;
 use fr_tail::Tail;
 use serde_json::Value;
 use std::alloc::Global;
+use test_asks::{NO_FORM, RowAsk, Wrong};
 
 /// What comes of a row of a tally of cells, of which `write` writes how far it has come.
 macro_rules! play_poll {

@@ -1,10 +1,10 @@
 //! What rows tell, as it is written.
-use crate::wrong::Wrong;
 use fr_base::Memory;
 use fr_forms::{Formed, Object, text_value};
 use serde_json::Value;
 use std::alloc::Global;
 use std::fmt;
+use test_asks::Wrong;
 
 /// What comes of a row, in its form.
 pub(crate) type RowTold = Result<Value, Wrong>;
@@ -15,7 +15,7 @@ macro_rules! twice {
     ($write:expr) => {
         match $write {
             Ok(written) => Ok(written),
-            Err(_) => $write.or(Err($crate::wrong::Wrong::Unsaid)),
+            Err(_) => $write.or(Err(test_asks::Wrong::Unsaid)),
         }
     };
 }

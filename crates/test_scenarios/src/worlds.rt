@@ -1,16 +1,15 @@
 //! Worlds: all nodes of a run, and what happens to them, event by event.
-use crate::asks::RowAsk;
 use crate::events::{read_config, read_event, was_sent, was_told};
 use crate::forms::write_last_state;
 use crate::lines::Subject;
 use crate::telling::{RowTold, named, told, write};
-use crate::wrong::{Wrong, said};
 use fr_base::{Bytes, Memory};
 use fr_forms::Object;
 use fr_storage::StorageFault;
 use fr_world::{Answer, Event, NotEnabled, World};
 use serde_json::Value;
 use std::alloc::Global;
+use test_asks::{RowAsk, Wrong, said};
 
 /// A world, and all events that were to happen in it.
 #[derive(Drop)]

@@ -5,7 +5,7 @@ use std::alloc::{AllocError, AllocFailed, Global};
 
 /// Why a row does not hold.
 #[derive(Drop)]
-pub(crate) enum Wrong {
+pub enum Wrong {
     /// There is no memory, and nothing was done: the row may be played again.
     Memory,
     /// There was no memory for a part of what the row does. Played again it goes on there.
@@ -17,7 +17,7 @@ pub(crate) enum Wrong {
 }
 
 /// What is said of something that is not to be done again, as it is if there is memory to say it.
-pub(crate) fn said<T: Drop>(value: Result<T, Wrong>) -> Result<T, Wrong> {
+pub fn said<T: Drop>(value: Result<T, Wrong>) -> Result<T, Wrong> {
     match value {
         Err(Wrong::Memory) => Err(Wrong::Unsaid),
         value => value,
@@ -25,7 +25,7 @@ pub(crate) fn said<T: Drop>(value: Result<T, Wrong>) -> Result<T, Wrong> {
 }
 
 /// What is wrong with what is in no form that is known.
-pub(crate) const NO_FORM: Wrong = Wrong::Form(
+pub const NO_FORM: Wrong = Wrong::Form(
     "this is not in the form that scenarios/README.md or docs/FORMATS.md gives it",
 );
 

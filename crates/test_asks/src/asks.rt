@@ -1,5 +1,4 @@
 //! What a row asks, and how values are taken out of what it gives.
-use crate::lines::json_of;
 use crate::wrong::{NO_FORM, Wrong};
 use fr_cli_json::tree::into_items;
 use fr_forms::Form::{Ask, Flag, Hex, List, Number, OrNull, OrZero, Tell, Text};
@@ -87,28 +86,28 @@ fn small_form_of(name: &str) -> &'static Form {
 }
 
 /// A value of a kind: its text is read.
-pub(crate) fn read_as<T: Formed>(alloc: Global, value: Value, kind: &str) -> Result<T, Wrong> {
+pub fn read_as<T: Formed>(alloc: Global, value: Value, kind: &str) -> Result<T, Wrong> {
     let text = value.to_vec(alloc)?;
     Ok(read_one(alloc, text.as_slice(), form_of(kind))?)
 }
 
 /// The items of an array.
-pub(crate) fn items(value: Value) -> Result<Vec<Value>, Wrong> {
+pub fn items(value: Value) -> Result<Vec<Value>, Wrong> {
     into_items(value).ok_or(NO_FORM)
 }
 
 /// What a row asks: a word, and what is given with it, out of which each value is taken once. Nothing may be left.
 #[derive(Drop)]
-pub(crate) struct RowAsk<'t> {
-    pub(crate) alloc: Global,
-    pub(crate) word: &'t str,
+pub struct RowAsk<'t> {
+    pub alloc: Global,
+    pub word: &'t str,
     text: &'t str,
     value: Value,
 }
 
 impl<'t> RowAsk<'t> {
     /// A word, and what is given with it as a text.
-    pub(crate) fn new(alloc: Global, word: &'t str, text: &'t str) -> Self {
+    pub fn new(alloc: Global, word: &'t str, text: &'t str) -> Self {
         RowAsk {
             alloc,
             word,
@@ -118,7 +117,7 @@ impl<'t> RowAsk<'t> {
     }
 
     /// A word, and what is given with it; null if that is nothing.
-    pub(crate) fn of(alloc: Global, word: &'t str, value: Value) -> Self {
+    pub fn of(alloc: Global, word: &'t str, value: Value) -> Self {
         RowAsk {
             alloc,
             word,
@@ -133,7 +132,7 @@ impl<'t> RowAsk<'t> {
     }
 
     /// The whole, whatever it is; null if nothing is given.
-    pub(crate) fn all(&mut self) -> Result<Value, Wrong> {
+    pub fn all(&mut self) -> Result<Value, Wrong> {
         let text = self.text();
         if text.is_empty() {
             Ok(self.value.take())
@@ -143,7 +142,7 @@ impl<'t> RowAsk<'t> {
     }
 
     /// The member of a name, whatever it is.
-    pub(crate) fn take(&mut self, name: &str) -> Result<Value, Wrong> {
+    pub fn take(&mut self, name: &str) -> Result<Value, Wrong> {
         self.value = self.all()?;
         match self.value.as_object_mut() {
             Some(members) => members.remove(name).ok_or(NO_FORM),
@@ -152,22 +151,22 @@ impl<'t> RowAsk<'t> {
     }
 
     /// The whole, which is of a kind.
-    pub(crate) fn read<T: Formed>(&mut self, kind: &str) -> Result<T, Wrong> {
+    pub fn read<T: Formed>(&mut self, kind: &str) -> Result<T, Wrong> {
         read_as(self.alloc, self.all()?, kind)
     }
 
     /// The member of a name.
-    pub(crate) fn get<T: Formed>(&mut self, name: &str) -> Result<T, Wrong> {
+    pub fn get<T: Formed>(&mut self, name: &str) -> Result<T, Wrong> {
         self.get_as(name, name)
     }
 
     /// The member of a name, which is of another kind than others of that name.
-    pub(crate) fn get_as<T: Formed>(&mut self, name: &str, kind: &str) -> Result<T, Wrong> {
+    pub fn get_as<T: Formed>(&mut self, name: &str, kind: &str) -> Result<T, Wrong> {
         read_as(self.alloc, self.take(name)?, kind)
     }
 
     /// The same of a member that may be there.
-    pub(crate) fn maybe<T: Formed>(&mut self, name: &str, kind: &str) -> Result<Option<T>, Wrong> {
+    pub fn maybe<T: Formed>(&mut self, name: &str, kind: &str) -> Result<Option<T>, Wrong> {
         match self.take(name) {
             Ok(value) => Ok(Some(read_as(self.alloc, value, kind)?)),
             Err(Wrong::Form(_)) => Ok(None),
@@ -176,12 +175,21 @@ impl<'t> RowAsk<'t> {
     }
 
     /// That nothing is left.
-    pub(crate) fn end(&self) -> Result<(), Wrong> {
+    pub fn end(&self) -> Result<(), Wrong> {
         let is_empty = match &self.value {
             Value::Null => self.text.is_empty(),
             Value::Object(members) => members.is_empty(),
             _ => false,
         };
         if is_empty { Ok(()) } else { Err(NO_FORM) }
+    }
+}
+
+/// The JSON that a text is.
+pub fn json_of(alloc: Global, text: &str) -> Result<Value, Wrong> {
+    match Value::from_slice(alloc, text.as_bytes()) {
+        Ok(value) => Ok(value),
+        Err(error) if error.is_memory() => Err(Wrong::Memory),
+        Err(_) => Err(Wrong::Form("this is no JSON")),
     }
 }
