@@ -48,6 +48,11 @@ EndsBy CanCrash end.NoConfig = ⊥
 EndsBy CanCrash end.NotThere = ⊥
 EndsBy CanCrash end.NoFile = ⊥
 EndsBy CanCrash end.Busy = ⊥
+EndsBy CanCrash end.Unmade = ⊥
+EndsBy CanCrash end.Missing = ⊥
+EndsBy CanCrash end.There = ⊥
+EndsBy CanCrash end.Stranger = ⊥
+EndsBy CanCrash end.NoRoom = ⊥
 EndsBy CanCrash (end.Crashed why) = IsEnd CanCrash why
 
 -- an answer is not written out of memory, or if a call of the writer failed
@@ -57,6 +62,11 @@ IsPutFault calls end.NoConfig = ⊥
 IsPutFault calls end.NotThere = ⊥
 IsPutFault calls end.NoFile = ⊥
 IsPutFault calls end.Busy = ⊥
+IsPutFault calls end.Unmade = ⊥
+IsPutFault calls end.Missing = ⊥
+IsPutFault calls end.There = ⊥
+IsPutFault calls end.Stranger = ⊥
+IsPutFault calls end.NoRoom = ⊥
 IsPutFault calls (end.Crashed why) = why ≡ crash.Memory
 
 -- a line is not answered if the node cannot go on, out of memory, or if a call of the writer failed
@@ -66,4 +76,9 @@ IsAnswerFault CanCrash calls end.NoConfig = ⊥
 IsAnswerFault CanCrash calls end.NotThere = ⊥
 IsAnswerFault CanCrash calls end.NoFile = ⊥
 IsAnswerFault CanCrash calls end.Busy = ⊥
+IsAnswerFault CanCrash calls end.Unmade = ⊥
+IsAnswerFault CanCrash calls end.Missing = ⊥
+IsAnswerFault CanCrash calls end.There = ⊥
+IsAnswerFault CanCrash calls end.Stranger = ⊥
+IsAnswerFault CanCrash calls end.NoRoom = ⊥
 IsAnswerFault CanCrash calls (end.Crashed why) = IsEnd CanCrash why

@@ -140,6 +140,17 @@ fn read_store(
     }
 }
 
+/// A folder whose files have so much room each.
+fn home_in(store: StoreFolder, room: usize) -> Home {
+    let cluster = store.cluster;
+    Home {
+        folder: store.name,
+        room,
+        cluster,
+        how: store.how,
+    }
+}
+
 /// The home of a cell or a log, as [`read_store`] reads the folder of a node.
 fn read_home(alloc: Global, matches: &ArgMatches<'_>) -> Result<Option<Option<Home>>, AllocError> {
     let room = matches.get_one::<u64>("room").unwrap_or(0);
@@ -147,12 +158,7 @@ fn read_home(alloc: Global, matches: &ArgMatches<'_>) -> Result<Option<Option<Ho
         return Ok(None);
     };
     match folder {
-        Some(StoreFolder { name, cluster, how }) => Ok(Some(Some(Home {
-            folder: name,
-            room: room as usize,
-            cluster,
-            how,
-        }))),
+        Some(store) => Ok(Some(Some(home_in(store, room as usize)))),
         None => Ok(Some(None)),
     }
 }
