@@ -17,6 +17,7 @@ import json
 import os
 import subprocess
 import sys
+import tempfile
 
 sys.path.insert(0, os.path.dirname(os.path.dirname(os.path.realpath(__file__))))
 
@@ -25,6 +26,8 @@ from tests import scenes
 JOBS = min(4, len(os.sched_getaffinity(0)))
 # bytes that are written before an answer is read: a pipe of Linux holds twice as many, however they are cut
 AHEAD = 2**15
+# bytes above which lines are put into a file for a run of their own
+LONG = 2**17
 
 
 class Unplayed(Exception):
@@ -37,7 +40,7 @@ class Player:
     def __init__(self, program):
         pipe = subprocess.PIPE
         self.process = subprocess.Popen([program], stdin=pipe, stdout=pipe, stderr=pipe)
-        self.asked = []
+        self.program, self.made, self.asked = program, "", []
 
     def __enter__(self):
         return self
@@ -65,21 +68,43 @@ class Player:
         self.asked += lines
         self.process.stdin.write("".join(f"{it}\n" for it in lines).encode())
         self.process.stdin.flush()
-        for said in [self.process.stdout.readline().decode() for line in lines if line]:
-            if not said.endswith("\n"):
-                raise Unplayed(f"test_scenarios ended: {self.process.stderr.read().decode().strip()}")
-            if said.startswith("! "):
-                raise Unplayed(said[2:].strip())
-            yield said[:-1]
+        for said in [self.process.stdout.readline() for line in lines if line]:
+            yield answer(said, self.process.stderr)
+
+    def says_anew(self, lines):
+        """Its answers to lines about what is made anew. Where they are long another run is asked them over a file, since
+        it reads a pipe byte by byte."""
+        lines = list(lines)
+        if sum(map(len, lines)) < LONG:
+            yield from self.says(lines)
+            return
+        self.asked += ["", self.made, *lines]
+        with tempfile.TemporaryFile() as asked, tempfile.TemporaryFile() as errors:
+            asked.write("".join(f"{it}\n" for it in [self.made, *lines]).encode())
+            asked.seek(0)
+            ran = subprocess.run([self.program], stdin=asked, stdout=subprocess.PIPE, stderr=errors)
+            errors.seek(0)
+            said = iter(ran.stdout.splitlines(keepends=True))
+            for line in [self.made, *filter(None, lines)]:
+                told = answer(next(said, b""), errors)
+                if line is not self.made:
+                    yield told
+        if ran.returncode != 0:
+            raise Unplayed(f"test_scenarios ended with status {ran.returncode}")
 
     def make(self, word, given=""):
         """Ends the scenario before, and begins one: what it answers."""
-        (said,) = self.says(["", line_of(word, given)])
+        self.made = line_of(word, given)
+        (said,) = self.says(["", self.made])
         return said
 
     def tells(self, lines):
         """What it tells in rows."""
         return map(json.loads, self.says(lines))
+
+    def tells_anew(self, lines):
+        """The same about what is made anew."""
+        return map(json.loads, self.says_anew(lines))
 
     def tell(self, word, given=""):
         """What it tells in a row."""
@@ -93,6 +118,16 @@ class Player:
         """Whether it ends well once there are no more rows."""
         self.process.stdin.close()
         return self.process.wait() == 0
+
+
+def answer(said, errors):
+    """An answer, without the end of its line."""
+    said = said.decode()
+    if not said.endswith("\n"):
+        raise Unplayed(f"test_scenarios ended: {errors.read().decode().strip()}")
+    if said.startswith("! "):
+        raise Unplayed(said[2:].strip())
+    return said[:-1]
 
 
 def line_of(word, given=""):
@@ -119,6 +154,9 @@ class Told:
 
     def rows(self, rows):
         """What comes of rows, one after the other. Those that are asked as they stand are asked at once."""
+        if not any(map(self.does, rows)):
+            yield from self.player.tells_anew(line_of(row.word, row.given) for row in rows)
+            return
         for does, some in itertools.groupby(rows, self.does):
             if does is None:
                 yield from self.player.tells([line_of(row.word, row.given) for row in some])
@@ -139,7 +177,7 @@ def ran(told, scripts):
         asked.append(line_of("bytes", written(script.hex())))
         if script.startswith(b"{"):
             asked.append(line_of("bytes", written((member + script[1:]).hex())))
-    found, answers = [], told.player.tells(asked)
+    found, answers = [], told.player.tells_anew(asked)
     for script in scripts:
         fault, text = next(answers)
         if script.startswith(b"{") and next(answers) != [fault, text]:
@@ -210,7 +248,7 @@ def end_in(line):
 def misread(told, given):
     """None if bytes that are changed are refused, or read as what they spell; else a place and its byte."""
     about, tried = told.first.word, others(bytes.fromhex(json.loads(given)))
-    answers = told.player.tells(line_of("read", written(wrong.hex())) for _, wrong in tried)
+    answers = told.player.tells_anew(line_of("read", written(wrong.hex())) for _, wrong in tried)
     read = [(at, wrong, it) for (at, wrong), it in zip(tried, answers) if not isinstance(it, str)]
     asked = []
     for _, _, it in read:
@@ -255,7 +293,7 @@ def read(told, form):
 
 def read_scripts(told, scripts):
     """What is written of scripts, of each that is one."""
-    return told.player.tells(line_of("bytes", written(it.encode().hex())) for it in scripts)
+    return told.player.tells_anew(line_of("bytes", written(it.encode().hex())) for it in scripts)
 
 
 def form_of(told, text):

@@ -169,7 +169,8 @@ fn copied_contents(alloc: Global, store: Result<MapStore, Memory>) -> RowTold {
 /// The state and the rows of a copy that goes back to a version, or why it does not.
 fn undone(store: Result<MapStore, Memory>, row: &mut RowAsk) -> RowTold {
     let mut copy = store?;
-    match copy.undo_to(row.alloc, row.read("version")?) {
+    let version = row.read("version")?;
+    match copy.undo_to(row.alloc, version) {
         Ok(()) => write_whole(row.alloc, &mut copy),
         Err(fault) => named(row.alloc, &fault),
     }
