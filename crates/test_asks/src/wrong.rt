@@ -14,6 +14,8 @@ pub enum Wrong {
     Unsaid,
     /// The row is no row; what is wrong with it.
     Form(&'static str),
+    /// A row for which there was no memory changed what its subject shows.
+    Changed { before: Vec<u8>, now: Vec<u8> },
 }
 
 /// What is said of something that is not to be done again, as it is if there is memory to say it.

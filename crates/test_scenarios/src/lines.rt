@@ -99,8 +99,19 @@ impl<'r> Lines<'r> {
         match told {
             Ok(text) => println!(self.rt; "{}", std::str::from_utf8(text)?)?,
             Err(Wrong::Form(what)) => println!(self.rt; "! {what}")?,
+            Err(Wrong::Changed { before, now }) => {
+                self.say_changed(before.as_slice(), now.as_slice())?
+            }
             Err(Wrong::Memory | Wrong::InPart | Wrong::Unsaid) => return Err(AllocError.into()),
         }
+        Ok(())
+    }
+
+    /// Says that a row for which there was no memory changed something.
+    fn say_changed(&self, before: &[u8], now: &[u8]) -> anyhow::Result<()> {
+        let before = std::str::from_utf8(before)?;
+        let now = std::str::from_utf8(now)?;
+        println!(self.rt; "! a row without memory changed {before} to {now}")?;
         Ok(())
     }
 }
@@ -133,9 +144,7 @@ fn play_or_again<T: Subject>(
     let before = play_row(alloc, subject, word);
     match play_row(alloc, subject, text) {
         Err(Wrong::Memory) => {
-            if has_changed(&before, &play_row(alloc, subject, word)) {
-                return Err(Wrong::Form("a row without memory changed something"));
-            }
+            compare_seen(before.ok(), play_row(alloc, subject, word).ok())?;
             play_row(alloc, subject, text)
         }
         Err(Wrong::InPart) => play_row(alloc, subject, text),
@@ -143,10 +152,19 @@ fn play_or_again<T: Subject>(
     }
 }
 
-fn has_changed(before: &Result<Vec<u8>, Wrong>, now: &Result<Vec<u8>, Wrong>) -> bool {
+/// Whether the same is seen of a subject as before, where both could be told.
+fn compare_seen(before: Option<Vec<u8>>, now: Option<Vec<u8>>) -> Result<(), Wrong> {
     match (before, now) {
-        (Ok(before), Ok(now)) => before.as_slice() != now.as_slice(),
-        _ => false,
+        (Some(before), Some(now)) => compare(before, now),
+        _ => Ok(()),
+    }
+}
+
+fn compare(before: Vec<u8>, now: Vec<u8>) -> Result<(), Wrong> {
+    if before.as_slice() == now.as_slice() {
+        Ok(())
+    } else {
+        Err(Wrong::Changed { before, now })
     }
 }
 
