@@ -151,7 +151,7 @@ def of_player(ended, first):
     return "wanted" if is_end else f"status {ended.status}"
 
 
-MISSED = re.compile(rb"^! a row without memory changed something\n(?:! left\n)*", re.M)
+MISSED = re.compile(rb"^! a row without memory changed .*\n(?:! left\n)*", re.M)
 
 
 def of_housed(ended, first):

@@ -72,8 +72,8 @@ class Player:
             yield answer(said, self.process.stderr)
 
     def says_anew(self, lines):
-        """Its answers to lines about what is made anew. Long ones go to another run, over a file: a pipe is read byte by
-        byte."""
+        """Its answers to lines about what is made anew. Where they are long another run is asked them over a file,
+        since it reads a pipe byte by byte."""
         lines = list(lines)
         if sum(map(len, lines)) < LONG:
             yield from self.says(lines)
