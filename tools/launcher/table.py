@@ -57,8 +57,8 @@ _CONFIG = _file("config", is_required=True)
 _DIR, _START = _file("dir", "DIR"), Option("start")
 _AHEAD = _wide("most-ahead", is_required=False)
 _ROOM = Option("room", "BYTES", range=(65_536, 1_099_511_627_776), is_signed=False)
-_STORE = (_DIR, _file("cluster", "NAME"), Option("make"), Option("adopt"))
-_FILES = (_ROOM, *_STORE)
+_KEPT = (_DIR, _file("cluster", "NAME"), Option("make"), Option("adopt"))
+_FILES = (_ROOM, *_KEPT)
 
 NODE = Command(
     "node",
@@ -69,7 +69,7 @@ NODE = Command(
             (_wide("epoch"), _number("index", 0, 15, is_required=True), *_NEEDED, *_FILES, _START, _AHEAD),
         ),
         Command("sequencer", (_wide("epoch"), _wide("last"), _AHEAD)),
-        Command("storage", (_number("tag", 0, 31, is_required=True), _CONFIG, *_STORE, _AHEAD)),
+        Command("storage", (_number("tag", 0, 31, is_required=True), _CONFIG, *_KEPT, _AHEAD)),
         Command(
             "proxy",
             (_wide("epoch"), _number("number", 0, 15, is_required=True), _wide("known"), *_SHAPE, _CONFIG, _AHEAD),
