@@ -218,8 +218,6 @@ def drawn(checks, command, seeds, events=400):
 
 # ---- bad lines, and ends
 
-# so many members that no line has that whoever compares each with all others is not done in time
-MANY = b"".join(b'"m%d":0,' % number for number in range(300_000))
 BAD = [
     (b"", None, 12),
     (b"x", None, 12),
@@ -236,18 +234,24 @@ BAD = [
     (b'{"src":"router","dest":"cell 1","body":{"type":"last","msg_id":2}}', 2, 12),
     (b'{"src":"router","dest":"cell 0","body":{"type":"sing","msg_id":9007199254740991}}', 9007199254740991, 10),
     (b'{"src":"router","dest":"cell 0","body":{"type":"submit","msg_id":3,"at":1,"batch":[],"step":1}}', 3, 10),
+]
+
+
+# so many members that no line has that whoever compares each with all others is not done in time
+MANY = b"".join(b'"m%d":0,' % number for number in range(300_000))
+LONG = [
     (b'{%b"src":"router","dest":"cell 0","body":{"type":"last","msg_id":4}}' % MANY, 4, 12),
     (b'{"src":"router","dest":"cell 0","body":{%b"type":"last","msg_id":5}}' % MANY, 5, 12),
 ]
 
 
-def bad_lines(checks, command):
+def bad_lines(checks, command, bad=BAD):
     """Each is answered by an error with its code, and changes nothing."""
     with tempfile.TemporaryDirectory() as room:
         words = with_config([*command, "cell", "--index", "0", "--start"], lines.CONFIG, room)
-        found, end = answers(words, [it for it, _, _ in BAD] + [line("cell 0", 4, {"type": "last"})])
-    checks.check(end == (0, b"") and len(found) == len(BAD) + 1, "bad lines:", len(found), "answers, and the end", end)
-    for it, (given, number, code) in zip(found, BAD):
+        found, end = answers(words, [it for it, _, _ in bad] + [line("cell 0", 4, {"type": "last"})])
+    checks.check(end == (0, b"") and len(found) == len(bad) + 1, "bad lines:", len(found), "answers, and the end", end)
+    for it, (given, number, code) in zip(found, bad):
         body = json.loads(it)["body"]
         is_so = body["type"] == "error" and body["code"] == code and body.get("in_reply_to") == number and body["text"]
         checks.check(is_so, given[:100], "is answered by", it)
