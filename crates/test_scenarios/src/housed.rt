@@ -103,12 +103,37 @@ pub(crate) fn sequencer(row: &mut RowAsk) -> Result<Housed<InMemory<Sequencer>>,
     Ok(Housed::new(row.alloc, node, NodeId::Sequencer { epoch }))
 }
 
-impl<N: Node + Drop> Subject for Housed<N>
-where
-    N::Plain: Housable,
-    <N::Plain as Machine>::Ask: Formed,
-    <N::Plain as Machine>::Tell: Drop,
-{
+impl Subject for Housed<InMemory<Cell>> {
+    fn play_row(&mut self, row: &mut RowAsk) -> RowTold {
+        play_housed(self, row)
+    }
+}
+
+impl Subject for Housed<CellNode<MemoryDevice>> {
+    fn play_row(&mut self, row: &mut RowAsk) -> RowTold {
+        play_housed(self, row)
+    }
+}
+
+impl Subject for Housed<InMemory<Log>> {
+    fn play_row(&mut self, row: &mut RowAsk) -> RowTold {
+        play_housed(self, row)
+    }
+}
+
+impl Subject for Housed<LogNode<MemoryDevice>> {
+    fn play_row(&mut self, row: &mut RowAsk) -> RowTold {
+        play_housed(self, row)
+    }
+}
+
+impl Subject for Housed<Faulty> {
+    fn play_row(&mut self, row: &mut RowAsk) -> RowTold {
+        play_housed(self, row)
+    }
+}
+
+impl Subject for Housed<InMemory<Sequencer>> {
     fn play_row(&mut self, row: &mut RowAsk) -> RowTold {
         play_housed(self, row)
     }
