@@ -1,4 +1,4 @@
-//! What a sequencer is asked, and what it tells.
+//! The asks of a sequencer, and its replies.
 ghost use Rattle.std.specs.Prelude.{◌≡◌, Ok};
 
 use fr_base::{Memory, Step, Version};
