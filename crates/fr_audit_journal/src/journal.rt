@@ -95,6 +95,8 @@ impl Journal {
         ensures not_rising { (result ≡ Err JournalFault.NotRising) ↔ (¬ IsAbove self.old.entries entry.stamp) }
         ensures err { OnErr result (self.new ≡ self.old) }
     {
+        // Before memory is asked for: an entry that does not fit is named so, however little memory there is
+        // (invariant 1).
         if !self.is_above(entry.stamp) {
             return Err(JournalFault::NotRising);
         }
@@ -160,7 +162,6 @@ impl Journal {
     }
 }
 
-/// Equal entries.
 fn copy_of(alloc: Global, entries: &[Entry]) -> Result<Vec<Entry>, Memory>
     ensures { IfOk result (λ copy. copy.items ≡ entries.now) }
 {
