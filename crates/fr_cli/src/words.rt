@@ -127,7 +127,7 @@ fn cluster_words(matches: &ArgMatches<'_>) -> ClusterWords {
     }
 }
 
-/// Which of the words do not go together.
+/// The message for words that do not go together.
 fn not_within(words: ClusterWords) -> &'static str {
     if words.coordinators % 2 == 0 {
         "the value of '--coordinators <N>' is even: it can be 1, 3, 5, 7 or 9"
@@ -155,12 +155,12 @@ fn share(matches: &ArgMatches<'_>, name: &str, default: u16) -> u16 {
     matches.get_one::<u16>(name).unwrap_or(default)
 }
 
-/// The number of a word, below 256, or what it is if the word is not there.
+/// The number behind a word, below 256; `default` if the word is not there.
 fn byte(matches: &ArgMatches<'_>, name: &str, default: u8) -> u8 {
     matches.get_one::<u8>(name).unwrap_or(default)
 }
 
-/// The number of a word, or what it is if the word is not there.
+/// The number behind a word; `default` if the word is not there.
 fn number(matches: &ArgMatches<'_>, name: &str, default: u32) -> u32 {
     matches.get_one::<u32>(name).unwrap_or(default)
 }
@@ -184,7 +184,6 @@ fn with<'a>(above: Command<'a>, below: Result<Command<'a>, Error>) -> Result<Com
     Ok(above.subcommand(below)?)
 }
 
-/// The command `simulate`.
 fn simulate_command<'a>(alloc: Global) -> Command<'a> {
     Command::new(alloc, "simulate")
         .about(
@@ -193,14 +192,12 @@ fn simulate_command<'a>(alloc: Global) -> Command<'a> {
         .after_help(SIMULATE_HELP)
 }
 
-/// The command `audit`.
 fn audit_command<'a>(alloc: Global) -> Command<'a> {
     Command::new(alloc, "audit")
         .about("Tells whether the journals of nodes keep the rules, or the first fault")
         .after_help(AUDIT_HELP)
 }
 
-/// The command `end` with its words.
 fn end_command<'a>(alloc: Global) -> Result<Command<'a>, Error> {
     let command = Command::new(alloc, "end")
         .about("Tells through which version a recovery takes over, from the replies of locked logs")
@@ -231,7 +228,6 @@ fn of_shape<'a>(alloc: Global, name: &'a str, help: &'a str, value: &'a str) -> 
         .action(ArgAction::Set)
 }
 
-/// The command `cluster` with its words.
 fn cluster_command<'a>(alloc: Global) -> Result<Command<'a>, Error> {
     let cluster = Command::new(alloc, "cluster")
         .about("Runs a cluster in threads, and audits what its nodes did")
@@ -290,7 +286,7 @@ fn with_nodes<'a>(alloc: Global, cluster: Command<'a>) -> Result<Command<'a>, Er
     Ok(command)
 }
 
-/// With the words of what they do.
+/// Adds the words for the size of the work: batches, recoveries and turns.
 fn with_work<'a>(alloc: Global, cluster: Command<'a>) -> Result<Command<'a>, Error> {
     let command = cluster
         .arg(many(
@@ -318,7 +314,7 @@ fn with_work<'a>(alloc: Global, cluster: Command<'a>) -> Result<Command<'a>, Err
     Ok(command)
 }
 
-/// With the words of the store, of a storm and of what is printed.
+/// Adds the words for the store, the faults of a storm and the output.
 fn with_storm<'a>(alloc: Global, cluster: Command<'a>) -> Result<Command<'a>, Error> {
     let command = cluster
         .arg(store_word(alloc))?
