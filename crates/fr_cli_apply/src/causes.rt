@@ -39,7 +39,6 @@ impl<R: Read> NotedReader<R> {
         }
     }
 
-    /// Keeps the first bytes.
     fn note(&mut self, bytes: &[u8]) {
         for byte in bytes {
             let Some(place) = self.head.get_mut(self.count) else {
@@ -119,7 +118,7 @@ impl<W: Write> Write for NotedWriter<W> {
     }
 }
 
-/// Keeps an error, but an interruption.
+/// Keeps an error as the cause. An interruption is none, since the call is then made again.
 fn keep(failure: &mut Option<io::Error>, error: io::Error) {
     if error.kind() != ErrorKind::Interrupted {
         *failure = Some(error);
