@@ -1,4 +1,5 @@
-//! Why the host refused a file, found by a second look where its error does not tell.
+//! Why the host refused a file, found by a second look where its error does not tell: the library that opens files has
+//! one error for a folder that may not be written, say, and for a file that may not be.
 use crate::fault::{DbFault, FileFault};
 use fr_cli_json::CliFault;
 use sqlite_std_file::OpenError;
@@ -14,7 +15,6 @@ pub(crate) enum Want {
     Write,
 }
 
-/// Why files were not opened.
 pub(crate) fn unopened(rt: &HostRuntime, name: &str, error: OpenError) -> DbFault {
     match error {
         OpenError::Busy => DbFault::Files(FileFault::Busy),
@@ -41,11 +41,12 @@ pub(crate) fn refused(rt: &HostRuntime, name: &str, want: Want, error: io::Error
     })
 }
 
-/// Of what there is no right.
+/// Whether the right to the file is missing, or the right to make files beside it in its folder.
 fn denied(rt: &HostRuntime, name: &str, want: Want) -> FileFault {
     if want == Want::Read {
         return FileFault::DeniedRead;
     }
+    // The file itself can be opened: then what was denied is to make the log beside it.
     match OpenOptions::new().read(true).write(true).open(rt, name) {
         Ok(_) => FileFault::DeniedFolder,
         Err(error) if error.kind() == ErrorKind::NotFound => FileFault::DeniedFolder,

@@ -90,12 +90,14 @@ fn copied(
     db: &fs::File,
     log: &Option<fs::File>,
 ) -> io::Result<Option<Files<MemoryFile>>> {
+    // Without this a crash of the host could take back rows that were shown.
     settle(db)?;
     let frames = whole_of(alloc, log)?;
     if frames.is_empty() && !has_head(db)? {
         return Err(ErrorKind::InvalidData.into());
     }
     let pages = whole(alloc, db)?;
+    // Read twice, since nothing is locked: only equal bytes were there at one moment.
     let (later_frames, later_pages) = (whole_of(alloc, log)?, whole(alloc, db)?);
     if later_frames != frames || later_pages != pages {
         return Ok(None);
