@@ -54,7 +54,6 @@ fn run_text(
     }
 }
 
-/// The script of an audit, on a line.
 fn script_text(alloc: Global, config: &Config, journals: &[Journal]) -> Result<String, Memory>
     ensures { IfOk result (λ text. IsScriptLine (string_bytes text)) }
 {
