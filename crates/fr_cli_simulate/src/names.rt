@@ -16,7 +16,6 @@ pub(crate) enum Refusal {
 }
 
 impl Refusal {
-    /// Its name.
     pub(crate) fn name(&self) -> &'static str {
         match self {
             Refusal::Event(why) => event_name(*why),
@@ -26,7 +25,6 @@ impl Refusal {
     }
 }
 
-/// The name of why an event cannot happen.
 pub(crate) fn event_name(why: NotEnabled) -> &'static str {
     match why {
         NotEnabled::NoSuchNode => "NoSuchNode",

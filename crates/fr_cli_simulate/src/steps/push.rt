@@ -18,7 +18,6 @@ pub(crate) enum Said {
 }
 
 impl Said {
-    /// Its word in a line.
     pub(crate) fn word(self) -> &'static str {
         match self {
             Said::Waiting => "waiting",
