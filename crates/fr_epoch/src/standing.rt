@@ -15,8 +15,8 @@ pub(crate) struct Found {
     pub(crate) last: Generation,
 }
 
-/// What a recoverer is going to write: the state, the generation that is the last in it, and the copy of
-/// what that one takes over.
+/// A recoverer's plan: the state that it is going to write, the last generation in it, and the copy of what that
+/// generation takes over.
 #[derive(Debug, Drop)]
 pub(crate) struct Draft {
     pub(crate) state: CoordState,
