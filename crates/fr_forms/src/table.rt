@@ -239,7 +239,7 @@ pub static ASKED: Form = ASK;
 /// What `Form::Tell` stands for.
 pub static TOLD: Form = TELL;
 
-/// A node, and what it tells.
+/// A node and its reply.
 pub static HEARD: Form = members! { from: NODE, tell: TELL };
 
 pub static APPLY: Form = members! { ops: List(&Handed(Piece::Line, &OPERATION)) };

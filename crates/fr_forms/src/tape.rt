@@ -280,7 +280,7 @@ impl<'a> Tape<'a> {
         Ok(())
     }
 
-    /// Notes mistakes in what has members, and what an object or an array lacks, or has too much.
+    /// Notes mistakes in an array or an object, and members or items that it lacks or has too many.
     #[inline(never)]
     fn look(&mut self, open: &mut Open, end: usize) -> Result<(), Unread> {
         let behind = open.base.wrapping_add(open.count);
