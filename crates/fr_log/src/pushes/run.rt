@@ -66,7 +66,7 @@ impl Run {
         self.first.mark.as_ref()
     }
 
-    /// Whether a push has its header among them, whatever it tells of what is known.
+    /// Whether a push has its header among them, whatever its `known`.
     pub(crate) fn heads(&self, push: &Push) -> bool
         ensures { result ≡ list_any (is_headed push.now) self.now }
     {
@@ -99,7 +99,6 @@ impl Run {
         }
     }
 
-    /// Appends the numbers of each.
     pub(crate) fn put(&self, list: &mut Vec<PushNumbers>) -> Result<(), Memory>
         ensures { OnOk result (list.new.items ≡ list.old.items ++ numbers_in self.now) }
     {
