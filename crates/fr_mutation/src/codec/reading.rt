@@ -83,6 +83,7 @@ fn kind_at(format: Format, bytes: &[u8]) -> Result<(Kind, &[u8]), DecodeFault>
 {
     let (byte, rest) = byte_at(bytes)?;
     let kind = Kind::from_byte(byte).ok_or(DecodeFault::UnknownKind)?;
+    // Otherwise a batch with that kind would have a second spelling, in format 1.
     if !format.has(kind) {
         return Err(DecodeFault::UnknownKind);
     }
@@ -96,6 +97,7 @@ fn clear_at(bytes: &[u8]) -> Result<(Fields<'_>, &[u8]), DecodeFault>
 {
     let (first, rest) = key_at(bytes)?;
     let (second, rest) = key_at(rest)?;
+    // Equal ends are a clear of no key, which a batch may have.
     if second.cmp(first).is_lt() {
         return Err(DecodeFault::Inverted);
     }
@@ -157,6 +159,7 @@ fn skip_checked(format: Format, count: usize, bytes: &[u8]) -> Result<&[u8], Dec
     ensures { Reads (λ x. x.now) result (rest_of (checked_at format count bytes.now)) }
 {
     let (found, rest) = skip_mutations(format, count, bytes)?;
+    // Known only once all mutations were seen, so it comes after every other fault.
     if format.is_needless(found) {
         return Err(DecodeFault::NeedlessFormat);
     }
