@@ -38,8 +38,8 @@ pub trait Grouping<M: Answering> {
     ghost is_own: { (ask : Ask) (a : M.Ask) → owned ask ≡ Some a → M.unwrapped ask ≡ Some a };
 }
 
-/// How a node serves several asks as one group, if it does: they are told what they would have been told one by one, and
-/// a crash leaves all of them taken, or none.
+/// How a node serves several asks as one group, if it does: their replies are those that they would have had one by
+/// one, and a crash leaves all of them taken, or none.
 pub trait Groups<N: Node>
 where
     N::Plain: Answering,
