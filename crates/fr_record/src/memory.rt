@@ -10,8 +10,8 @@ use fr_base::Memory;
 use std::alloc::Global;
 use std::marker::Model;
 
-/// A device in memory, which never fails. It takes all its memory when it is made. What a crash leaves
-/// of it is what `crash` makes of it.
+/// A device in memory, which never fails. It takes all its memory when it is made. `crash` makes of it what a crash may
+/// leave.
 #[derive(Drop)]
 pub struct MemoryDevice {
     bytes: Vec<u8>,
