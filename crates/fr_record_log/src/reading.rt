@@ -316,7 +316,6 @@ fn popped_of(bytes: &[u8]) -> Result<PoppedTag, RecordReadFault>
     Ok(PoppedTag { tag, version })
 }
 
-/// What a log does by a record.
 #[tactic(auto, unfolding(crate::specs::Reading::change_at))]
 pub(crate) fn change_at(alloc: Global, log: &Log, bytes: &[u8]) -> Result<Change, RecordReadFault>
     ensures { Finds (λ change. change) result (change_at log.now bytes.now) }
