@@ -1,4 +1,4 @@
-//! What a cell is asked, and what it tells.
+//! The asks of a cell, and its replies.
 ghost use Rattle.std.specs.Prelude.{◌≡◌, IfOk, IsOk};
 ghost use Rattle.fr_register.specs.Cell.{AskHoldsNone, TellHoldsNone};
 ghost use Rattle.fr_register.specs.Same.{is_same_cell_ask, is_same_cell_tell};
