@@ -24,7 +24,8 @@ use std::alloc::Global;
 use std::sync::Wait;
 use std::thread::Threads;
 
-/// What a cluster did: the journals of its nodes, the world that they are a run of, and what each workload was told.
+/// The result of a cluster: the journals of its nodes, the world that they are a run of, and the outcomes that each
+/// workload received.
 #[derive(Drop)]
 pub struct Report {
     pub journals: Vec<Journal>,

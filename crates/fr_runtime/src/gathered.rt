@@ -9,7 +9,7 @@ use fr_base::Memory;
 use fr_proxy::Outcome;
 use std::alloc::Global;
 
-/// The journals of all nodes, what each workload was told, and the workloads.
+/// The journals of all nodes, the outcomes that each workload received, and the workloads.
 #[derive(Drop)]
 pub(crate) struct Gathered<W> {
     pub(crate) journals: Vec<Journal>,

@@ -92,7 +92,6 @@ fn add_serving<W: Drop, T: Drop>(all: &mut Vec<Job<W, T>>, workloads: Vec<W>) ->
     Ok(())
 }
 
-/// Adds a job for each ballot.
 fn add_recovering<W: Drop, T: Drop>(
     all: &mut Vec<Job<W, T>>,
     ballots: &[(Ballot, Option<Shape>)],
@@ -106,7 +105,6 @@ fn add_recovering<W: Drop, T: Drop>(
     Ok(())
 }
 
-/// Adds a job for each storage server.
 fn add_pulling<W: Drop, T: Drop>(all: &mut Vec<Job<W, T>>, stores: Vec<T>) -> Result<(), Memory>
     ensures { OnOk result (all.new.items ≡ all.old.items ++ pull_jobs stores.items) }
 {
@@ -125,6 +123,7 @@ fn serve_at<K: Rack, F: Faults, R: Wait, W: Workload + Drop>(
 ) -> Result<Done<W>, TurnFault>
     ensures { IfOk result (λ done. DidServe W.given W.heard number work done) }
 {
+    // A workload without a proxy is handed back as it came, because its batches are the caller's.
     let Ok(proxy) = u8::try_from(number) else {
         return Ok(Done::Served {
             work,
@@ -148,7 +147,6 @@ fn serve_at<K: Rack, F: Faults, R: Wait, W: Workload + Drop>(
     })
 }
 
-/// Does what one thread does.
 fn work_at<K: Rack, F: Faults, R: Wait, S: ShardStore + Drop, W: Workload + Drop>(
     site: &Site<'_, K, F, R>,
     turns: u32,

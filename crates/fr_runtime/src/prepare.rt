@@ -37,7 +37,7 @@ where
     Ok(node)
 }
 
-/// What has a cell hold the first state.
+/// The write by which a cell holds the first state.
 fn first_write(alloc: Global, state: &CoordState) -> Result<CellAsk, Memory> {
     let ballot = first_epoch().ballot();
     let Some(value) = CellValue::new(encode(alloc, state)?) else {

@@ -60,7 +60,7 @@ impl<J, D, F: Fn(J) -> D> Worker<J, D> for Call<'_, F> {
     }
 }
 
-/// What a thread promises: that it hands nothing back, since it was called off, or what is done of its job.
+/// A thread's promise: to hand back nothing, if it was called off, or else the result of its job.
 #[derive(Drop)]
 struct Sworn<W, J> {
     worker: Snapshot<W>,
@@ -114,8 +114,8 @@ fn start<
     }
 }
 
-/// Starts a thread for each job, and lets them begin once all are there. If one is refused, those that are there are
-/// called off.
+/// Starts a thread for each job, and lets them begin once all are there: otherwise those that pull could use up their
+/// turns before the first commit. If one is refused, those that are there are called off.
 fn start_each<
     's,
     R: Threads + Wait + Sync + 's,
