@@ -58,14 +58,14 @@ pub trait Faults {
     /// Whether a node that asks may be gone from a turn of its thread on, and whether it may stay.
     ghost MayEnd: { Self → NodeId → ℕ → Bool → Type 0 } = { λ faults node turn is_end. Unit {0} };
 
-    /// What happens to this ask to a node.
+    /// The fate of this ask to a node.
     fn verdict(&self, to: NodeId, ask: &Ask) -> Verdict
         ensures { MayBefall self.now to ask.now result };
 
     /// The node gave a reply to this request, be it heard or lost. Faults that follow a script wait for it.
     fn answered(&self, to: NodeId, ask: &Ask);
 
-    /// What happens to a node at this turn of the thread of crashes, if these generations are chosen, that of the start
+    /// The blow to a node at this turn of the thread of crashes, if these generations are chosen, that of the start
     /// first.
     fn strikes(&self, turn: u32, chosen: &[Chosen]) -> Option<Blow>
         ensures { MayStrike self.now turn chosen.now result };
