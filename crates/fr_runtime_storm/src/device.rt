@@ -64,6 +64,7 @@ impl<D: Device> Device for FrailDevice<'_, D> {
     }
 
     fn write_at(&mut self, at: usize, bytes: &[u8]) -> Result<(), DeviceFault> {
+        // A refused write does nothing, so it is one of the things that a device may leave after `Device`.
         let result = if self.works() {
             self.device.write_at(at, bytes)
         } else {

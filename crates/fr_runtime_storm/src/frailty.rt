@@ -21,6 +21,7 @@ impl Frailty {
         ensures { result ≡ record { every = drawn_by self number; left = drawn_by self number } }
     {
         let every = u64::from(self.every);
+        // Each device has its own distance, so that they do not all fail at the same turn.
         let extra = match u64::from(word_of(self.seed.wrapping_add(number))).checked_rem(every) {
             Some(extra) => extra,
             None => 0,

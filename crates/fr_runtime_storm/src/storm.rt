@@ -36,7 +36,6 @@ impl Storm {
         }
     }
 
-    /// The number of the next call.
     fn next_call(&self) -> u64 {
         self.calls.fetch_add(1, Ordering::SeqCst)
     }
