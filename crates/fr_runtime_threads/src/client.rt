@@ -40,8 +40,8 @@ struct Client<W: Workload> {
     ghost place: { is_proxy number door.notes.journal.node ≡ true },
 }
 
-/// What a workload's thread hands back: the workload, the journals of its proxies, the batch that none of them took, if
-/// there is one, and what the workload was told.
+/// The result of a workload's thread: the workload, the journals of its proxies, the batch that none of them took, if
+/// there is one, and the outcomes that the workload received.
 #[derive(Drop)]
 pub struct Served<W: Workload> {
     pub work: W,

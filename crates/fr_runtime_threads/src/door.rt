@@ -22,7 +22,7 @@ use fr_state::Generation;
 use std::alloc::Global;
 use std::sync::Wait;
 
-/// A proxy with its journal, and what its journal comes to: what it said of each batch, and what became of the last.
+/// A proxy with its journal, and what follows from that: its word on each batch, and the fate of the last.
 #[derive(Drop)]
 pub(crate) struct Door {
     proxy: Proxy,
@@ -39,7 +39,7 @@ pub(crate) struct Door {
     ghost opens: { (account notes.journal.entries).is_open ≡ is_open_in under_way },
 }
 
-/// What became of a batch once its proxy said this.
+/// A batch's fate, from its proxy's word.
 fn after_saying(under_way: UnderWay, outcome: Outcome) -> UnderWay
     ensures { result ≡ after_saying under_way outcome }
 {
@@ -107,7 +107,7 @@ impl Door {
         self.notes.seen()
     }
 
-    /// What became of the batch that it took last.
+    /// The fate of the batch that it took last.
     pub(crate) fn under_way(&self) -> UnderWay
         ensures { result ≡ self.now.under_way }
     {
