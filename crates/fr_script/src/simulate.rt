@@ -29,7 +29,7 @@ pub enum ScriptStep {
     Pull(Pull),
     /// A storage server asks a log for the mark.
     Mark(Pull),
-    /// A storage server has a log let go of what it has for good.
+    /// A storage server has a log free the records that the server has for good.
     Pop(Pull),
     /// A storage server answers a read.
     Read(Read),
