@@ -18,7 +18,6 @@ pub enum Health {
 }
 
 impl Health {
-    /// Whether a device failed.
     pub(crate) fn has_failed(&self) -> bool
         ensures { result ≡ has_failed self.now }
     {

@@ -37,7 +37,6 @@ pub(crate) fn load<D: Device>(alloc: Global, device: &mut D) -> Result<Vec<u8>, 
     Ok(bytes)
 }
 
-/// The bytes at a place.
 pub(crate) fn read_record<D: Device>(
     alloc: Global,
     device: &mut D,
@@ -140,8 +139,8 @@ fn read_groups<D: Device>(alloc: Global, device: &mut D) -> Result<(Found, bool)
     }
 }
 
-/// Reads the file that a device holds, whatever a crash made of it: its last gate is written anew if that is torn, and a
-/// group that lies behind the closed gate is given up for good.
+/// Reads the file that a device holds, whatever a crash made of it: its last gate is written anew if that is torn, and
+/// a group that lies behind the closed gate is given up for good.
 pub(crate) fn read_file<D: Device>(alloc: Global, device: &mut D) -> Result<Found, RecordFault>
     ensures file { IfOk result (λ found. IsFile (D.disk device.new) found.table.items found.end false (groups_in found.count (D.disk device.new).content)) }
     ensures guarded { IfOk result (λ found. IsGuarded (D.disk device.new).content found.end found.count) }

@@ -20,8 +20,8 @@ use fr_record::{Device, DeviceFault, RecordFault};
 use std::alloc::{AllocError, Global};
 use std::marker::Model;
 
-/// A file of groups of records on a device. A group that was acknowledged is there after every crash, and a byte that is
-/// changed on the device is told when the file is opened.
+/// A file of groups of records on a device. A group that was acknowledged is there after every crash, and a byte that
+/// is changed on the device is told when the file is opened.
 #[derive(Drop)]
 pub struct Segment<D: Device> {
     device: D,
@@ -150,8 +150,8 @@ impl<D: Device> Segment<D> {
         behind_gate(alloc, self.count, &body)
     }
 
-    /// Adds a group of at least one record, spelled as `new`, for which there is room. A refusal that is not the device's
-    /// changes nothing.
+    /// Adds a group of at least one record, spelled as `new`, for which there is room. A refusal that is not the
+    /// device's changes nothing.
     pub(crate) fn put_group(&mut self, group: &[Vec<u8>], new: &[u8]) -> Result<(), RecordFault>
         requires works { self.old.is_failed ≡ false }
         requires some { group.now ≢ [] }
@@ -247,8 +247,8 @@ impl<D: Device> Segment<D> {
         }
     }
 
-    /// Opens the file again, failed or not: what the device holds then is what the file stands for. If it is refused
-    /// the groups stay, and the file stays failed if it was.
+    /// Opens the file again, failed or not: from then on the file stands for the bytes that the device then holds. If
+    /// it is refused the groups stay, and the file stays failed if it was.
     pub fn reopen(&mut self, alloc: Global) -> Result<(), RecordFault>
         ensures groups { OnOk result (StandsFor (D.disk self.old.device).content self.new.groups) }
         ensures works { OnOk result (self.new.is_failed ≡ false) }
