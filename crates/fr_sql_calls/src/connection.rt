@@ -192,7 +192,7 @@ pub fn bytes<S: Backing>(conn: &mut Connection<S>) -> Result<Bytes, Trouble>
     }
 }
 
-/// Makes of the tables what they are to become, in one transaction: all of it, or nothing.
+/// Updates the tables in one transaction: all of it, or nothing.
 fn attempt<S: Backing>(conn: &mut Connection<S>, work: &Work, rows: usize) -> Result<usize, Refused>
     requires rest { IsAtRest (state S.Store conn.old) }
     requires fits { Fits work.now (state S.Store conn.old).now }

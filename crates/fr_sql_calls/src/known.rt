@@ -179,7 +179,7 @@ pub(crate) fn rows_above<S: Backing>(
     Ok(tree_of(alloc, rows)?)
 }
 
-/// What the keys of undo rows hold now.
+/// The present values of the keys of undo rows.
 pub(crate) fn held_at<S: Backing>(
     alloc: Global,
     conn: &mut Connection<S>,

@@ -38,7 +38,7 @@ pub enum MetaWork {
 /// All that one transaction does to the three tables.
 #[derive(Debug, Drop)]
 pub struct Work {
-    /// By key: what it holds, and what it is to hold. Equal ones write nothing.
+    /// By key: its old value and its new one. Equal ones write nothing.
     pub changes: BTreeMap<Bytes, Change>,
     /// What happens to the undo rows, in the same transaction.
     pub rows: RowWork,
@@ -197,7 +197,7 @@ fn note_all<S: Backing>(
     Ok(count)
 }
 
-/// Makes of the undo rows what they are to become, and counts those that are there then.
+/// Updates the undo rows, and counts those that are there then.
 fn fill_rows<S: Backing>(
     tx: &mut Transaction<'_, S>,
     work: &RowWork,
@@ -231,7 +231,7 @@ fn fill_rows<S: Backing>(
     }
 }
 
-/// Makes of the row of `meta` what it is to become.
+/// Updates the row of `meta`.
 fn fill_meta<S: Backing>(tx: &mut Transaction<'_, S>, work: &MetaWork) -> Result<usize, Refused>
     requires inside { IsInside (state S.Store tx.old.conn.now) }
     requires laid { IsLaidOut (state S.Store tx.old.conn.now).now }
@@ -248,7 +248,7 @@ fn fill_meta<S: Backing>(tx: &mut Transaction<'_, S>, work: &MetaWork) -> Result
     }
 }
 
-/// Makes of the tables what they are to become, in a transaction, and counts the undo rows that are there then.
+/// Updates all three tables, in a transaction, and counts the undo rows that are there then.
 pub(crate) fn fill<S: Backing>(
     tx: &mut Transaction<'_, S>,
     work: &Work,
