@@ -105,7 +105,6 @@ pub fn drop_through<S: Backing>(
     )
 }
 
-/// The undo row that a row shows.
 fn undo_row(row: &Row) -> Result<((Version, Bytes), Option<Bytes>), Refused>
     ensures { IfOk result (λ shown. shown ≡ shown_row row.now) }
 {
