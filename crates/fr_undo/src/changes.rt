@@ -25,7 +25,7 @@ pub struct Change {
     pub after: Option<Bytes>,
 }
 
-/// A plan with what each of its keys holds before.
+/// A plan, with the old value of each of its keys.
 pub(crate) fn changes_by(
     alloc: Global,
     contents: &BTreeMap<Bytes, Bytes>,

@@ -22,7 +22,7 @@ use std::cmp::Ordering;
 use std::collections::btree_map::{BTreeMap, Entry};
 use std::mem::replace;
 
-/// Keys with what each is to hold: a value, or none.
+/// Keys with their planned values; none for a key that is to go.
 pub(crate) type Entries = Vec<(Bytes, Option<Bytes>)>;
 
 /// What each key is to hold: a value, or none. Keys that come in order are kept in a list, which takes
@@ -129,7 +129,7 @@ pub(crate) fn add(
     }
 }
 
-/// Plans what a key is to hold, whatever was planned of it.
+/// Plans a key's value, whatever was planned of it before.
 fn set(alloc: Global, plan: &mut Plan, key: Bytes, after: Option<Bytes>) -> Result<(), Memory>
     requires { IsPlan plan.old }
     ensures plan { OnOk result (IsPlan plan.new) }
