@@ -22,9 +22,9 @@ use fr_storage::{ReadFault, Storage, StorageFault};
 use fr_undo::MapStore;
 use std::alloc::Global;
 
-/// Tells a server what a node told, which changes it only if a log did, and answers why it refuses that. Out of memory
-/// a server that is kept is as it was, since a copy is told first; another may be left failed, with a part of what it
-/// heard.
+/// Hands a server a node's reply, which changes it only if it is a log's, and answers why the server refuses that. Out
+/// of memory a server that is kept is as it was, since a copy hears it first; another may be left failed, with a part
+/// of the reply.
 pub fn tell_server(
     alloc: Global,
     keeps: bool,
@@ -38,6 +38,7 @@ pub fn tell_server(
     ensures works { OnOk result (server.new.failed ≡ false) }
     ensures err { keeps ≡ true → OnErr result (server.new ≡ server.old) }
 {
+    // A world that is given up with the event needs no copy of a server with all its rows.
     if !keeps {
         return told(alloc, server, from, tell);
     }
@@ -95,6 +96,7 @@ fn refusal(heard: Result<(), StorageFault>) -> Result<Option<StorageFault>, Memo
 {
     match heard {
         Ok(()) => Ok(None),
+        // A store in memory fails for want of memory alone.
         Err(StorageFault::Store(_)) => Err(Memory),
         Err(fault) => Ok(Some(fault)),
     }

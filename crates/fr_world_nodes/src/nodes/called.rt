@@ -95,6 +95,7 @@ impl Nodes {
         node_laws();
         self.keep_proxy_of(epoch, proxy)?;
         self.turns.reserve()?;
+        // Before the proxy takes the batch, since afterwards nothing may fail.
         let kept = batch.copy()?;
         let room = room(alloc)?;
         let ask = submit(&mut self.proxies, (epoch, proxy), step, batch);

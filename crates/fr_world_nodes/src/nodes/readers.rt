@@ -112,7 +112,6 @@ impl Nodes {
         }
     }
 
-    /// What others see of a cell.
     fn last_of_cell(&self, alloc: Global, index: u8) -> Result<Option<Last>, Memory>
         requires { IsKept self.now }
         ensures { IfOk result (λ last. last ≡ last_at (state_of self.now).config (state_of self.now).turns (node.Cell index)) }
@@ -123,7 +122,6 @@ impl Nodes {
         }
     }
 
-    /// What others see of a log.
     fn last_of_log(&self, alloc: Global, epoch: Epoch, index: u8) -> Result<Option<Last>, Memory>
         requires { IsKept self.now }
         ensures { IfOk result (λ last. last ≡ last_at (state_of self.now).config (state_of self.now).turns (node.Log epoch index)) }
@@ -140,7 +138,6 @@ impl Nodes {
         }
     }
 
-    /// What others see of a sequencer.
     fn last_of_sequencer(&self, alloc: Global, epoch: Epoch) -> Result<Option<Last>, Memory>
         requires { IsKept self.now }
         ensures { IfOk result (λ last. last ≡ last_at (state_of self.now).config (state_of self.now).turns (node.Sequencer epoch)) }
@@ -156,7 +153,6 @@ impl Nodes {
         }
     }
 
-    /// What others see of a storage server.
     fn last_of_server(&self, alloc: Global, tag: Tag) -> Result<Option<Last>, Memory>
         requires { IsKept self.now }
         ensures { IfOk result (λ last. last ≡ last_at (state_of self.now).config (state_of self.now).turns (node.Storage tag)) }
