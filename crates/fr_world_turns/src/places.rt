@@ -21,7 +21,6 @@ pub(crate) enum Found {
     Several(Box<Vec<usize>>),
 }
 
-/// The places under a key.
 pub(crate) fn under<'a>(places: &'a Places, key: &Key) -> &'a [usize]
     ensures { result.now ≡ under places.now key.now }
 {

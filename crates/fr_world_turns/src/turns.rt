@@ -158,7 +158,6 @@ impl Turns {
     }
 }
 
-/// The last of some turns.
 fn last_of(turns: &[Turn]) -> &[Turn] {
     &turns[turns.len().saturating_sub(LATELY)..]
 }
