@@ -92,7 +92,6 @@ pub(crate) fn read_as<T: Formed>(alloc: Global, value: Value, kind: &str) -> Res
     Ok(read_one(alloc, text.as_slice(), form_of(kind))?)
 }
 
-/// The items of an array.
 pub(crate) fn items(value: Value) -> Result<Vec<Value>, Wrong> {
     into_items(value).ok_or(NO_FORM)
 }
@@ -156,7 +155,6 @@ impl<'t> RowAsk<'t> {
         read_as(self.alloc, self.all()?, kind)
     }
 
-    /// The member of a name.
     pub(crate) fn get<T: Formed>(&mut self, name: &str) -> Result<T, Wrong> {
         self.get_as(name, name)
     }

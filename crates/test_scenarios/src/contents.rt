@@ -13,7 +13,6 @@ use std::collections::BTreeMap;
 /// Keys and their values.
 pub(crate) type Rows = BTreeMap<Bytes, Bytes>;
 
-/// Of no key.
 pub(crate) fn no_rows(alloc: Global) -> Rows {
     BTreeMap::new(alloc)
 }
@@ -29,7 +28,6 @@ impl Subject for Rows {
     }
 }
 
-/// The copy of a batch acts.
 fn act(rows: &mut Rows, row: &mut RowAsk) -> Result<(), Wrong> {
     let batch: Batch = row.read("batch")?;
     Ok(apply(row.alloc, rows, &batch.copy()?)?)

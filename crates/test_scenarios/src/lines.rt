@@ -7,7 +7,7 @@ use std::alloc::{AllocError, Global};
 
 /// What a scenario is about.
 pub(crate) trait Subject {
-    /// What comes of a row, in its form. If it answers `Memory` nothing was done, if it answers `InPart` a part: it is
+    /// The outcome of a row, in its form. If it answers `Memory` nothing was done, if it answers `InPart` a part: it is
     /// asked once more.
     fn play_row(&mut self, row: &mut RowAsk) -> RowTold;
 }
@@ -172,7 +172,6 @@ fn text_of(alloc: Global, value: &Value) -> Result<Vec<u8>, Wrong> {
     Ok(value.to_vec(alloc)?)
 }
 
-/// The JSON that a text is.
 pub(crate) fn json_of(alloc: Global, text: &str) -> RowTold {
     match Value::from_slice(alloc, text.as_bytes()) {
         Ok(value) => Ok(value),

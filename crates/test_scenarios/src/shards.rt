@@ -12,7 +12,6 @@ use fr_tags::{ShardFault, ShardMap, covers, holders, is_held};
 use serde_json::Value;
 use std::alloc::Global;
 
-/// How the keys are cut into shards.
 pub(crate) fn read_map(row: &mut RowAsk) -> Result<ShardMap, Wrong> {
     map_of(row.get("shards")?)
 }
@@ -80,7 +79,6 @@ fn write_found(alloc: Global, shard: Result<Option<Shard>, Memory>) -> RowTold {
     }
 }
 
-/// The logs that hold a tag.
 fn held_by(row: &mut RowAsk) -> RowTold {
     let (m, k) = read_sizes(row)?;
     told(row.alloc, holders(row.alloc, row.get("tag")?, m, k))

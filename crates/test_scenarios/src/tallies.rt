@@ -14,7 +14,7 @@ use fr_tail::Tail;
 use serde_json::Value;
 use std::alloc::Global;
 
-/// What comes of a row of a tally of cells, of which `write` writes how far it has come.
+/// The outcome of a row of a tally of cells, of which `write` writes how far it has come.
 macro_rules! play_poll {
     ($tally:ident, $row:ident, $write:ident) => {
         match $row.word {

@@ -47,7 +47,7 @@ impl Subject for Played {
     }
 }
 
-/// What comes of an event. If memory runs out the world is as it was, and the event is tried again.
+/// The outcome of an event. If memory runs out the world is as it was, and the event is tried again.
 fn take(alloc: Global, played: &mut Played, event: Event) -> RowTold {
     let turns = played.world.turns().len();
     let given = match played.world.step(alloc, event.copy()?) {
@@ -59,7 +59,7 @@ fn take(alloc: Global, played: &mut Played, event: Event) -> RowTold {
     said(write_happened(alloc, &mut played.events, event, given))
 }
 
-/// Keeps an event, and says a copy of what came of it.
+/// Keeps an event, and says a copy of its outcome.
 fn write_happened(
     alloc: Global,
     events: &mut Vec<Event>,
