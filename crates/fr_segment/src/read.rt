@@ -101,7 +101,8 @@ fn set_guard<D: Device>(device: &mut D, end: usize, number: u64) -> Result<(), D
 fn read_groups<D: Device>(alloc: Global, device: &mut D) -> Result<(Found, bool), RecordFault>
     ensures file { IfOk result (λ it. IsFile (D.disk device.new) it.0.table.items it.0.end false (groups_in it.0.count (D.disk device.new).content)) }
     ensures guarded { IfOk result (λ it. IsTrue it.1 → IsGuarded (D.disk device.new).content it.0.end it.0.count) }
-    ensures unguarded { IfOk result (λ it. it.1 ≡ false → (IsGuarded (D.disk device.new).content it.0.end it.0.count → ⊥) × (it.0.end + 14 ≤ length (D.disk device.new).content)) }
+    ensures unguarded { IfOk result (λ it. it.1 ≡ false → (IsGuarded (D.disk device.new).content it.0.end it.0.count → ⊥)
+        × (it.0.end + 14 ≤ length (D.disk device.new).content)) }
     ensures stands_for { IfOk result (λ it. StandsFor (D.disk device.old).content (groups_in it.0.count (D.disk device.new).content)) }
     ensures broken { (result ≡ Err RecordFault.Broken) → (gs : List Group) → StandsFor (D.disk device.old).content gs → ⊥ }
     ensures capacity { D.capacity_of device.new ≡ D.capacity_of device.old }

@@ -40,7 +40,8 @@ impl<D: Device> Model for Segment<D> {
 
     ghost view = { λ r. record { device = r.device; groups = groups_in r.count (D.disk r.device).content; is_failed = r.is_failed } };
 
-    ghost invariant = { λ r. IsFile (D.disk r.device) r.table.items r.end r.is_failed (groups_in r.count (D.disk r.device).content) × (r.is_failed ≡ false → IsGuarded (D.disk r.device).content r.end r.count) };
+    ghost invariant = { λ r. IsFile (D.disk r.device) r.table.items r.end r.is_failed (groups_in r.count (D.disk r.device).content)
+        × (r.is_failed ≡ false → IsGuarded (D.disk r.device).content r.end r.count) };
 }
 
 impl<D: Device> Segment<D> {

@@ -33,7 +33,8 @@ impl<D: Device> Segments<D> {
         ensures device { (result ≡ Err RecordFault.Device)
             → min (D.failures_of self.new.current + D.failures_of self.new.other) (2 ^ 64 - 1)
             ≡ min (min (D.failures_of self.old.current + D.failures_of self.old.other) (2 ^ 64 - 1) + 1) (2 ^ 64 - 1) }
-        ensures no_failure { OnOk result ((D.failures_of self.new.current ≡ D.failures_of self.old.current) × (D.failures_of self.new.other ≡ D.failures_of self.old.other)) }
+        ensures no_failure { OnOk result ((D.failures_of self.new.current ≡ D.failures_of self.old.current)
+            × (D.failures_of self.new.other ≡ D.failures_of self.old.other)) }
         ensures capacity { (D.capacity_of self.new.current ≡ D.capacity_of self.old.current) × (D.capacity_of self.new.other ≡ D.capacity_of self.old.other) }
     {
         let former = match self.current.first(alloc, self.identity.as_slice()) {
