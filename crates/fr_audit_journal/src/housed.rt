@@ -100,7 +100,7 @@ where
         }
     }
 
-    /// What it did.
+    /// Its entries so far.
     pub fn journal(&self) -> &Journal
         ensures place { result.now.node ≡ self.now.place }
         ensures entries { result.now.entries ≡ self.now.entries }

@@ -50,7 +50,7 @@ impl Journal {
         self.node
     }
 
-    /// What it did, the oldest first.
+    /// Its entries, the oldest first.
     pub fn entries(&self) -> &[Entry]
         ensures value { result.now ≡ self.now.entries }
         ensures rise { Rise self.now.entries }

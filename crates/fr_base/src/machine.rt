@@ -17,7 +17,7 @@ pub trait Machine {
     /// The states that asks can lead a machine to.
     ghost IsReached: { Self → Type 0 };
 
-    /// What an ask is told.
+    /// The reply to an ask.
     ghost told: { Self → Self.Ask → Self.Tell };
 
     /// The state after an ask.

@@ -17,7 +17,7 @@ use std::thread::Threads;
 /// Where the program says what is beside its output.
 #[derive(Clone, Copy, Debug)]
 pub struct Errors<'a, E> {
-    /// Standard error, or what stands for it.
+    /// Standard error, or a stand-in for it.
     pub to: &'a E,
     /// Whether that is a terminal.
     pub is_terminal: bool,

@@ -14,7 +14,7 @@ use fr_undo::ShardStore;
 use std::alloc::Global;
 use std::io::{Read, Write};
 
-/// What a store keeps its rows in.
+/// Where a store keeps its rows.
 #[derive(Clone, Copy, Debug, PartialEq, Eq)]
 pub enum StoreKind {
     /// A map in memory.

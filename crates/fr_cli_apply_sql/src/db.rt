@@ -21,7 +21,7 @@ use sqlite_disk::Files;
 use std::alloc::Global;
 use std::io::{Read, Write};
 
-/// What a fault of a store is to a command.
+/// The fault of a command whose store has this fault.
 fn fault_of(fault: StoreFault) -> DbFault
     ensures { cli_of result ≡ CliFault.Memory }
 {

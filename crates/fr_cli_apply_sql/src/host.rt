@@ -18,7 +18,7 @@ use std::{fs, io};
 /// A file of the host that is read once, when it is opened.
 pub type HostFile = Mirror<FileFrom<Unknown>>;
 
-/// What each database begins with.
+/// The bytes with which each database begins.
 const HEAD: &[u8] = b"SQLite format 3\0";
 
 /// Whether the log of a database has anything. It lies where a link at the name leads. A name is refused with which
@@ -141,7 +141,7 @@ fn memory_bytes(alloc: Global, file: &mut MemoryFile) -> io::Result<Vec<u8>> {
     Ok(bytes)
 }
 
-/// A copy of files, in memory: what is tried on it is not written into them.
+/// A copy of files, in memory: a trial on it writes nothing into them.
 fn copy_of(alloc: Global, files: &mut Files<HostFile>) -> io::Result<Files<MemoryFile>> {
     let log = bytes_of(alloc, &mut files.log)?;
     Ok(files_of(log, bytes_of(alloc, &mut files.db)?))
@@ -157,7 +157,7 @@ fn hold_another(alloc: Global, files: &mut Files<HostFile>) -> io::Result<bool> 
     Ok(matches!(opened, Err(OpenFault::NoStore)))
 }
 
-/// Whether files hold a store already. What is tried is tried on a copy.
+/// Whether files hold a store already. It is tried on a copy.
 fn hold_store(alloc: Global, files: &mut Files<MemoryFile>) -> io::Result<bool> {
     let log = memory_bytes(alloc, &mut files.log)?;
     let db = memory_bytes(alloc, &mut files.db)?;

@@ -8,7 +8,7 @@ use std::io::ErrorKind;
 use std::os::unix::fs::MetadataExt;
 use std::{fs, io};
 
-/// What a command wanted to do with a file.
+/// The access to a file that a command wanted.
 #[derive(Clone, Copy, PartialEq, Eq)]
 pub(crate) enum Want {
     Read,
@@ -54,7 +54,7 @@ fn denied(rt: &HostRuntime, name: &str, want: Want) -> FileFault {
     }
 }
 
-/// What a file is that is no plain file of one name.
+/// Whether a file has a second name, or is no plain file at all.
 fn not_plain(rt: &HostRuntime, name: &str) -> FileFault {
     match fs::metadata(rt, name) {
         Ok(found) if found.is_file() && found.nlink() != 1 => FileFault::SecondName,
@@ -62,7 +62,7 @@ fn not_plain(rt: &HostRuntime, name: &str) -> FileFault {
     }
 }
 
-/// What it is that a file was not read.
+/// The fault of a file that was not read.
 pub(crate) fn unread(error: io::Error) -> DbFault {
     match error.kind() {
         ErrorKind::OutOfMemory => DbFault::Command(CliFault::Memory),

@@ -9,7 +9,7 @@ use std::io::{ErrorKind, Read};
 use std::os::unix::fs::{FileExt, MetadataExt};
 use std::{fs, io};
 
-/// What each database begins with.
+/// The bytes with which each database begins.
 const HEAD: &[u8] = b"SQLite format 3\0";
 
 /// The database of a name and its log, in memory. Nothing is made, nothing is written and nothing is locked. A database
@@ -105,7 +105,7 @@ fn copied(
     Ok(Some(files_of(frames, pages)))
 }
 
-/// Has what is read of a file on the disk, where that can be asked for.
+/// Has the bytes of a file put on the disk before they are read, where that can be asked for.
 fn settle(file: &fs::File) -> io::Result<()> {
     match file.sync_all() {
         Err(error)

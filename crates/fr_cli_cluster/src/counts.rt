@@ -11,7 +11,7 @@ use fr_state::Generation;
 use std::io::Eprint;
 use std::sync::atomic::{AtomicU64, Ordering};
 
-/// What journals show, in numbers.
+/// The counts of journals.
 #[derive(Clone, Copy, Debug, PartialEq, Eq)]
 pub struct Counts {
     /// How often a node that answers asks was asked, and told.
@@ -55,7 +55,7 @@ impl Counts {
         }
     }
 
-    /// What the journals of a run show.
+    /// The counts of the journals of a run.
     pub fn over(journals: &[Journal]) -> Self {
         let mut counts = Counts::new();
         for journal in journals {
@@ -234,7 +234,7 @@ pub struct CountsLine<'a, E, F> {
 }
 
 impl<'a, E: Eprint, F> CountsLine<'a, E, F> {
-    /// Nothing is counted yet, but for what the devices and files of a rack refused.
+    /// Nothing is counted yet, but for the refusals of a rack's devices and files.
     pub fn new(to: &'a E, faults: &'a F, refusals: &'a RefusedCalls) -> Self {
         CountsLine {
             to,

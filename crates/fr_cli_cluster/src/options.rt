@@ -4,7 +4,7 @@ ghost use Rattle.fr_cli_cluster.specs.Options.{HasClients, HasNodes, HasStorm, H
 
 use std::marker::Model;
 
-/// What the words of `cluster` say: its numbers, and whether its journals are printed.
+/// The words of `cluster`: its numbers, and whether its journals are printed.
 #[derive(Clone, Copy, Debug, PartialEq, Eq)]
 pub struct ClusterWords {
     /// How many coordinators there are: 1, 3, 5, 7 or 9.
@@ -34,7 +34,7 @@ pub struct ClusterWords {
     /// A device refuses one of N to 2 N writes and syncs, and a database in files one of as many writes: 16 to 65,535.
     /// At 0 none is refused.
     pub refuse: u16,
-    /// From what faults, and the batches of a storm, are drawn.
+    /// The seed of the draws of faults, and of the batches of a storm.
     pub seed: u64,
     /// Whether the script of the audit is printed if it finds a run.
     pub journal: bool,
@@ -42,7 +42,7 @@ pub struct ClusterWords {
     pub counts: bool,
 }
 
-/// What is run if the words say nothing.
+/// The numbers that are run if the words give none.
 pub const DEFAULTS: ClusterWords = ClusterWords {
     coordinators: 3,
     logs: 4,

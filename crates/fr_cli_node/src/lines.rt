@@ -9,7 +9,7 @@ use std::io::{ErrorKind, Read};
 /// The most bytes that one read gives.
 const READ_SIZE: usize = 32_768;
 
-/// What a reader has next.
+/// The next thing that a reader has.
 #[derive(Debug, Drop)]
 pub(crate) enum Found {
     /// A line, without its end.
@@ -118,7 +118,7 @@ impl Lines {
         Err(CliFault::Input)
     }
 
-    /// Reads what comes next; false if there is no more.
+    /// Reads the next bytes; false if there are no more.
     fn fill<R: Read>(&mut self, reader: &mut R) -> Result<bool, CliFault>
         ensures fault { IfErr result (λ fault. (fault ≡ CliFault.Input) ⊎ (fault ≡ CliFault.Memory)) }
     {

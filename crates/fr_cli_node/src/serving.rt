@@ -293,7 +293,7 @@ fn unread(fault: CliFault) -> NodeEnd
     NodeEnd::Command(fault)
 }
 
-/// Has a node do what a line asks. A bad line asks nothing.
+/// Has a node do the request of a line. A bad line has none.
 fn do_line<T: Acting>(
     alloc: Global,
     node: &mut T,

@@ -106,7 +106,7 @@ fn number_in(tell: &Tell) -> Option<Version> {
     }
 }
 
-/// What a proxy says of its batch.
+/// A proxy's word on its batch.
 fn outcome_in(answer: &Answer) -> Outcome {
     match answer {
         Answer::Heard(outcome) => *outcome,

@@ -9,7 +9,7 @@ use fr_register::CellAsk;
 use fr_world::World;
 use std::alloc::Global;
 
-/// What an ask is for.
+/// The purpose of an ask.
 #[derive(Clone, Copy)]
 pub(crate) enum Purpose {
     /// A read of a cell.

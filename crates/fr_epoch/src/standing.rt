@@ -8,7 +8,7 @@ use fr_state::{CoordState, Generation};
 use fr_tags::ShardMap;
 use fr_tail::Tail;
 
-/// What a recoverer took over: the parent state, and its last generation, whose logs are to be locked.
+/// The state that a recoverer found, its parent, and the last generation in it, whose logs are to be locked.
 #[derive(Debug, Drop)]
 pub(crate) struct Found {
     pub(crate) state: CoordState,

@@ -31,7 +31,7 @@ pub trait Acting {
     /// The node.
     ghost node: { Self → NodeId };
 
-    /// What it did, the oldest first.
+    /// Its entries, the oldest first.
     ghost entries: { Self → List Entry };
 
     /// Its state, as others see it.

@@ -11,7 +11,7 @@ use fr_storage::StorageFault;
 pub enum Answer {
     /// What the node told to which an ask was delivered.
     Told(Tell),
-    /// What a proxy says of its batch.
+    /// A proxy's word on its batch.
     Heard(Outcome),
     /// Why a storage server did not take what it heard.
     Refused(StorageFault),

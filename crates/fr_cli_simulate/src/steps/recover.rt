@@ -39,7 +39,7 @@ fn why_not_begun(
     why_not(alloc, world, Event::Begin { ballot, shape })
 }
 
-/// Asks for a recoverer what its phases lack.
+/// Sends the asks that a recoverer's phases still lack.
 fn go_on(alloc: Global, world: &mut World, recover: &Recover) -> Result<(), Memory> {
     let ballot = recover.ballot;
     ask_each(alloc, world, ballot, Purpose::Read, recover.read.as_slice())?;

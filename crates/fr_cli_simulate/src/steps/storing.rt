@@ -20,7 +20,7 @@ use std::alloc::Global;
 /// How many records are pulled at most.
 const MOST: u8 = 100;
 
-/// What a storage server asks a log for.
+/// A storage server's wish from a log.
 #[derive(Clone, Copy)]
 pub(crate) enum Wish {
     /// The records of its tag after the version that it applied.
@@ -41,7 +41,7 @@ impl Wish {
     }
 }
 
-/// What a log told, as far as the line of a step says it.
+/// A log's reply, as far as the line of a step says it.
 #[derive(Clone, Copy)]
 enum Told {
     /// It refused the ask.
@@ -203,7 +203,7 @@ fn ask_in_place(
     }
 }
 
-/// What a log tells a storage server that asks it, if the server can hear that.
+/// A log's reply to a storage server, if the server can hear it.
 fn tell_for(
     alloc: Global,
     world: &mut World,
@@ -221,7 +221,7 @@ fn tell_for(
     }
 }
 
-/// Why a storage server does not hear what another node told it; none if it does.
+/// Why a storage server does not hear another node's reply; none if it does.
 fn why_unheard(world: &World, tag: Tag, from: &NodeId, tell: &Tell) -> Option<NotEnabled>
     ensures { result ≡ None → IsOk (turn_of world.now.config world.now.turns (event.Hear (node.Storage tag) from.now tell.now None)) }
 {
@@ -282,7 +282,7 @@ fn told_in(tell: &Tell) -> Told {
     }
 }
 
-/// What was told, unless the log refused the ask, or the storage server the tell.
+/// The reply, unless the log refused the ask, or the storage server the reply.
 fn asked_in(told: Told, answer: &Answer) -> Asked {
     match (told, answer) {
         (Told::Refused(why), _) => Asked::Refused(Refusal::Log(why)),

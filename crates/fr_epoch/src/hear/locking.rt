@@ -170,7 +170,7 @@ fn replied(end: &EndTally, index: u8, durable: Version, known: Version) -> EndTa
     end
 }
 
-/// What a recoverer asks once it has its plan: none if it is lost.
+/// A recoverer's asks once it has its plan: none if it is lost.
 fn draft_asks(
     alloc: Global,
     epoch: Epoch,
