@@ -237,7 +237,7 @@ fn put_wanted(said: &mut String, wanted: Wanted) -> Result<(), AllocError> {
     }
 }
 
-/// What a value of a form is.
+/// The description of a form's values.
 fn put_form(said: &mut String, form: &'static Form) -> Result<(), AllocError> {
     said.push_str(match form {
         Form::OrNull(_) => "null or ",

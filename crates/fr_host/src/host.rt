@@ -82,7 +82,7 @@ fn unopened(error: OpenError) -> HostFault {
     }
 }
 
-/// What an error of the host is to the caller.
+/// The fault of an error of the host.
 fn fault_of(error: io::Error) -> HostFault {
     match error.kind() {
         io::ErrorKind::NotFound | io::ErrorKind::NotADirectory => HostFault::Missing,

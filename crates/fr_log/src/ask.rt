@@ -54,7 +54,7 @@ impl Most {
 /// A request to a log.
 #[derive(Clone, Debug, Drop, PartialEq, Eq)]
 pub enum LogAsk {
-    /// To take what an epoch takes over from the one before.
+    /// To take the records that an epoch takes over from the one before.
     Seed(Seed),
     /// To hold a commit.
     Push(Push),

@@ -178,7 +178,7 @@ impl Log {
         self.pushes.mark()
     }
 
-    /// The numbers of its pushes, the oldest first: what is popped of a push does not change them.
+    /// The numbers of its pushes, the oldest first: pops do not change them.
     pub fn numbers(&self, alloc: Global) -> Result<Vec<PushNumbers>, Memory>
         ensures { IfOk result (λ list. list.items ≡ map pushed_numbers self.now.pushes) }
     {

@@ -272,7 +272,7 @@ fn grow(alloc: Global, shelves: &mut Vec<Shelf>, number: usize) -> Result<(), Me
     Ok(())
 }
 
-/// Takes out of each shelf what is at a version or above it.
+/// Takes out of each shelf the batches at a version or above it.
 fn cut_all(shelves: &mut Vec<Shelf>, version: Version)
     ensures { (t : ℕ) → shelf_of shelves.new.items t ≡ cut version (shelf_of shelves.old.items t) }
 {
@@ -281,7 +281,7 @@ fn cut_all(shelves: &mut Vec<Shelf>, version: Version)
     }
 }
 
-/// Takes out of each shelf what is popped of its tag.
+/// Takes the popped batches out of each shelf.
 fn sweep_all(shelves: &mut Vec<Shelf>, popped: &[PoppedTag])
     ensures { (t : ℕ) → shelf_of shelves.new.items t ≡ above (popped_at popped.now t) (shelf_of shelves.old.items t) }
 {

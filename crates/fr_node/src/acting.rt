@@ -49,7 +49,7 @@ pub trait Acting {
     /// The reason why it is not started again, above a stamp, if there is one.
     ghost back_refusal: { Self → ℕ → Option Hearing → Option TurnRefusal };
 
-    /// What it asks in a turn, if the logs of an epoch may be asked for their mark.
+    /// Its asks in a turn, if the logs of an epoch may be asked for their mark.
     ghost wanted: { Self → ℕ → Option Newest → List (NodeId × Ask) };
 
     /// The value that a key had at a version.

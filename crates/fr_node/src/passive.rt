@@ -79,7 +79,7 @@ where
         }
     }
 
-    /// What it did. It leads from the state in which its process found the node to the one in which it is.
+    /// Its entries. They lead from the state in which its process found the node to the one in which it is.
     pub fn course(&self) -> &Course
         ensures place { result.now.node ≡ self.now.place }
         ensures entries { result.now.entries ≡ self.now.entries }

@@ -62,7 +62,7 @@ impl ProxyNode {
         }
     }
 
-    /// What it did. It leads from the proxy that the process began with to the one that it has.
+    /// Its entries. They lead from the proxy that the process began with to the one that it has.
     pub fn course(&self) -> &Course
         ensures place { result.now.node ≡ self.now.place }
         ensures entries { result.now.entries ≡ self.now.entries }
@@ -104,7 +104,7 @@ impl ProxyNode {
         Ok(entry)
     }
 
-    /// Hears what a node told it, and enters that.
+    /// Hears a node's reply, and enters it.
     fn hear(
         &mut self,
         alloc: Global,

@@ -73,7 +73,7 @@ impl RecovererNode {
         }
     }
 
-    /// What it did. It leads from the recoverer that the process began with to the one that it has.
+    /// Its entries. They lead from the recoverer that the process began with to the one that it has.
     pub fn course(&self) -> &Course
         ensures place { result.now.node ≡ self.now.place }
         ensures entries { result.now.entries ≡ self.now.entries }
@@ -105,7 +105,7 @@ impl RecovererNode {
         Ok(entry)
     }
 
-    /// Hears what a node told it, and enters that.
+    /// Hears a node's reply, and enters it.
     fn hear(
         &mut self,
         alloc: Global,

@@ -25,7 +25,7 @@ pub enum NodeRequest {
     },
     /// Its state.
     Last,
-    /// What it asks in a turn.
+    /// Its asks in a turn.
     Wants {
         turn: u32,
         newest: Option<Newest>,
@@ -61,7 +61,7 @@ pub enum NodeReply {
     Last {
         last: Last,
     },
-    /// What it asks.
+    /// Its asks.
     Wants {
         wants: Wants,
     },
@@ -76,7 +76,7 @@ pub enum NodeReply {
         stand: Stand,
         wants: Option<Wants>,
     },
-    /// What was entered when it was started again, and where it stands.
+    /// The entries of its new start, and where it stands.
     Back {
         entries: Vec<Entry>,
         stand: Stand,
@@ -181,7 +181,7 @@ fn take<T: Acting>(
     })
 }
 
-/// What a node asks once it took a turn, if it says so with each.
+/// A node's asks once it took a turn, if it says them with each.
 fn wants_of<T: Acting>(alloc: Global, node: &T) -> Result<Option<Wants>, NodeTurnFault>
     ensures asks { IfOk result (λ asks. IfSome asks (λ wants. wants ≡ T.wanted node.now 0 None)) }
     ensures crashed { IfCrashed result T.CanCrash }

@@ -89,7 +89,7 @@ impl<S: ShardStore> StorageNode<S> {
         }
     }
 
-    /// What it did. While it works, that leads from the server that the process began with to the one that it has.
+    /// Its entries. While it works, they lead from the server that the process began with to the one that it has.
     pub fn course(&self) -> &Course
         ensures place { result.now.node ≡ self.now.place }
         ensures entries { result.now.entries ≡ self.now.entries }

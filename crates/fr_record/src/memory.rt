@@ -54,8 +54,7 @@ impl MemoryDevice {
         })
     }
 
-    /// A crash, and the device after it: what is not synced holds `fill` in each byte, at the present
-    /// length.
+    /// A crash, and the device after it: bytes that are not synced are `fill`, at the present length.
     pub fn crash(&mut self, fill: u8)
         ensures left { MayLeave (disk_of self.old) self.new.bytes }
         ensures len { length self.new.bytes ≡ length self.old.bytes }

@@ -55,7 +55,7 @@ fn ballots(change: &[u8]) -> Option<(Ballot, Ballot)>
     }
 }
 
-/// Every cell is within its limits, since what its parts tell of themselves says so.
+/// Every cell is within its limits, since its parts are.
 fn cell_within_limits(cell: &Cell)
     ensures { is_sound cell.now ≡ true }
 {

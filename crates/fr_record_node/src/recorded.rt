@@ -19,7 +19,7 @@ pub trait Recorded: Machine + Drop {
     ghost use Rattle.fr_record_node.specs.Several.{after_all};
     ghost use Rattle.fr_record_node.specs.Replay.{replayed};
 
-    /// A checkpoint: what brings a machine back to its state before some asks.
+    /// A checkpoint, by which a machine goes back to its state before some asks.
     type Place: Drop;
 
     /// This machine as it was before it was asked anything.

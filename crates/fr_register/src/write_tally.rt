@@ -8,7 +8,7 @@ use fr_base::{Ballot, Memory};
 use std::alloc::Global;
 use std::marker::Model;
 
-/// A tally of the cells that hold the write of one ballot. What it answered stays.
+/// A tally of the cells that hold the write of one ballot. Its answer stays.
 #[derive(Clone, Debug, Drop)]
 pub struct WriteTally {
     ballot: Ballot,

@@ -37,7 +37,7 @@ pub fn take_told<S: ShardStore>(
     }
 }
 
-/// Tells a storage server what a log of an epoch has of its tag, as [`take_peeked`] does.
+/// Hands a storage server a log's records of its tag, as [`take_peeked`] does.
 fn peeked_by<S: ShardStore>(
     alloc: Global,
     storage: &mut Storage<S>,

@@ -63,7 +63,7 @@ pub fn shown_law()
     node_laws();
 }
 
-/// The end of an epoch is that of the replies to its locks, and what is taken over was numbered.
+/// The end of an epoch is that of the replies to its locks, and the versions that are taken over were numbered.
 pub fn ends_law()
     ensures end { EndIsOfReplies }
     ensures reached { SeedIsReached }
@@ -94,7 +94,8 @@ pub fn told_law()
     node_laws();
 }
 
-/// What is acknowledged or known in an epoch has been reached by each of its logs, or is below its first version.
+/// Each version that is acknowledged or known in an epoch was reached by each of its logs, or is below its first
+/// version.
 pub fn known_law()
     ensures acknowledged { AcknowledgedIsSafe }
     ensures proxies { ProxyKnownIsBelow }
@@ -105,7 +106,7 @@ pub fn known_law()
     node_laws();
 }
 
-/// What is known in an epoch is held by each of its seeded logs, and is taken over by each plan over it.
+/// The versions known in an epoch are held by each of its seeded logs, and taken over by each plan over it.
 pub fn order_law()
     ensures durable { KnownIsDurable }
     ensures replies { RepliesAgree }

@@ -107,7 +107,7 @@ impl Cluster<'_> {
     }
 }
 
-/// Runs the threads of a cluster, and gathers what they and the nodes that they shared hand back.
+/// Runs the threads of a cluster, and gathers their results and those of the nodes that they shared.
 fn handed_back<
     'a,
     K: Rack + Sync + Drop,
@@ -144,8 +144,7 @@ fn handed_back<
     Ok(Gathered::new(alloc, journals, done)?)
 }
 
-/// What journals come to, which are audited. A node of the start that has no journal, or a node that has two, is found
-/// first.
+/// The result of an audit of journals. A node of the start that has no journal, or a node that has two, is found first.
 fn audited_report(
     alloc: Global,
     config: Config,

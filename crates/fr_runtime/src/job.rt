@@ -23,7 +23,7 @@ use std::alloc::Global;
 use std::sync::Wait;
 use std::thread::Threads;
 
-/// What one thread does.
+/// The work of one thread.
 #[derive(Drop)]
 pub(crate) enum Job<W, T> {
     /// It hands the batches of a workload to the proxies of a number.
@@ -44,10 +44,10 @@ pub(crate) enum Job<W, T> {
     Crash,
 }
 
-/// What one thread hands back.
+/// The result of one thread.
 #[derive(Drop)]
 pub(crate) enum Done<W> {
-    /// A workload, the journals of its proxies, the batch that none of them took, and what the workload was told.
+    /// A workload, the journals of its proxies, the batch that none of them took, and the outcomes that it received.
     Served {
         work: W,
         journals: Vec<Journal>,
@@ -62,7 +62,7 @@ pub(crate) enum Done<W> {
     Nothing,
 }
 
-/// What the threads do: one for each workload, each ballot and each storage server, and one for the crashes.
+/// The work of all threads: one for each workload, each ballot and each storage server, and one for the crashes.
 fn jobs<W: Drop, T: Drop>(
     alloc: Global,
     workloads: Vec<W>,
@@ -171,7 +171,7 @@ fn work_at<K: Rack, F: Faults, R: Wait, S: ShardStore + Drop, W: Workload + Drop
     }
 }
 
-/// Runs the threads to their ends: what each hands back, in their order. None begins before all are there.
+/// Runs the threads to their ends: the result of each, in their order. None begins before all are there.
 fn run_jobs<
     C: Node<Plain = Cell> + Send + Drop,
     L: Node<Plain = Log> + Send + Drop,
@@ -206,7 +206,7 @@ fn run_jobs<
     work_each(site.rt, site.alloc, jobs, &one)
 }
 
-/// What threads handed back, if none has a fault.
+/// The results of threads, if none has a fault.
 fn without_fault<W: Drop>(
     alloc: Global,
     threads: Vec<Result<Done<W>, TurnFault>>,

@@ -30,12 +30,12 @@ impl From<AllocError> for SpawnFault {
     }
 }
 
-/// What threads do with jobs of a type, and hand back.
+/// The work of threads on jobs of a type, and their results.
 trait Worker<J, D> {
     /// The jobs that may be done.
     ghost Takes: { Self → J → Type 0 };
 
-    /// What is done of a job.
+    /// The result of a job.
     ghost Did: { Self → J → D → Type 0 };
 
     /// Does a job.
@@ -144,7 +144,7 @@ fn start_each<
     Ok(handles)
 }
 
-/// Waits for each thread, and gives what they hand back.
+/// Waits for each thread, and gives their results.
 fn join_each<R: Threads, J: Drop, D: Drop, W: Worker<J, D>>(
     rt: &R,
     alloc: Global,
@@ -172,7 +172,7 @@ fn put<T: Drop>(all: &mut Vec<T>, item: T) -> Result<(), SpawnFault>
     Ok(())
 }
 
-/// Has a worker do each job in a thread of its own, and gives what the threads hand back.
+/// Has a worker do each job in a thread of its own, and gives the threads' results.
 fn work_in_threads<
     R: Threads + Wait + Sync,
     J: Send + Drop,

@@ -17,7 +17,7 @@ pub struct FrailDevice<'a, D: Device> {
 }
 
 impl<'a, D: Device> FrailDevice<'a, D> {
-    /// A device with this fuse. What it refuses is counted beside it.
+    /// A device with this fuse. Its refusals are counted beside it.
     pub fn new(device: D, fuse: Fuse, refusals: &'a RefusedCalls) -> Self
         ensures device { result.device ≡ device }
         ensures fuse { result.fuse ≡ fuse }

@@ -45,7 +45,7 @@ impl Draws {
         word_of(self.seed.wrapping_add(call))
     }
 
-    /// What happens to an ask, by the draw of this call.
+    /// The fate of an ask, by the draw of this call.
     pub fn verdict(self, call: u64) -> Verdict
         ensures { result ≡ verdict_of self.strength self.late (word_at self.seed call) }
     {
@@ -75,7 +75,7 @@ impl Draws {
         })
     }
 
-    /// What happens to a node of one of the chosen generations by the draw of this call, if something does.
+    /// The blow to a node of one of the chosen generations by the draw of this call, if there is one.
     pub fn blow(self, call: u64, chosen: &[Chosen]) -> Option<Blow>
         ensures { result ≡ blow_at self.crashes self.losses (named_by chosen.now (word_at self.seed call))
             (word_at self.seed call) }

@@ -6,7 +6,7 @@ use crate::word_of;
 use fr_base::LogId;
 use std::sync::atomic::{AtomicU64, Ordering};
 
-/// What is drawn from: a seed, and how rarely a call is refused. At 0 each one is.
+/// The range of a draw of refusals: a seed, and how rarely a call is refused. At 0 each one is.
 #[derive(Clone, Copy, Debug, PartialEq, Eq)]
 pub struct Frailty {
     /// The number from which all is drawn.

@@ -19,7 +19,7 @@ use std::alloc::Global;
 #[derive(Drop)]
 pub struct DrawnOrders {
     alloc: Global,
-    /// What its generator was seeded by.
+    /// The seed of its generator.
     pub seed: u64,
     /// Over how many shards it draws.
     pub shards: u8,
@@ -69,7 +69,7 @@ impl DrawnOrders {
         self.given.as_slice()
     }
 
-    /// What it was told of them, the oldest first.
+    /// Their outcomes, the oldest first.
     pub fn heard(&self) -> &[Outcome]
         ensures { result.now ≡ ⟦<DrawnOrders as Workload>⟧.heard self.now }
     {

@@ -23,7 +23,7 @@ use std::sync::Wait;
 use std::thread::yield_now;
 
 /// A workload at its proxies: the present one, the journals of the earlier ones, a batch that none has taken yet, and
-/// what the workload was told.
+/// the outcomes that the workload received.
 #[derive(Drop)]
 struct Client<W: Workload> {
     first: Snapshot<W>,
@@ -174,7 +174,7 @@ impl<W: Workload + Drop> Client<W> {
         Ok(true)
     }
 
-    /// Tells the workload what the proxy said, if it said something of its batch.
+    /// Gives the workload the outcome of its batch, if the proxy said one.
     fn settle(&mut self) -> Result<(), Memory>
         ensures first { self.new.first ≡ self.old.first }
         ensures number { self.new.number ≡ self.old.number }

@@ -135,7 +135,7 @@ impl Door {
         self.is_gone
     }
 
-    /// The proxy crashes, and is gone. What was under way stays so.
+    /// The proxy crashes, and is gone. A batch in flight stays so.
     pub(crate) fn crash(&mut self) -> Result<(), Memory>
         ensures place { self.new.notes.journal.node ≡ self.old.notes.journal.node }
         ensures told { self.new.told.items ≡ self.old.told.items }
@@ -201,7 +201,7 @@ impl Door {
         Ok(())
     }
 
-    /// The workload is told what the proxy said. It takes no memory.
+    /// The workload receives the outcome that the proxy said. It takes no memory.
     pub(crate) fn take(&mut self, outcome: Outcome)
         requires room { length self.old.told.items < vec_capacity self.old.told }
         requires said { self.old.under_way ≡ UnderWay.Said outcome }

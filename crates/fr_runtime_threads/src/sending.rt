@@ -30,7 +30,7 @@ pub(crate) trait Hearer {
     /// The batches that the node took, if it is a proxy.
     ghost given: { Self → List Order };
 
-    /// What the node's workload was told of its batches.
+    /// The outcomes that the node's workload received.
     ghost told: { Self → List Outcome };
 
     /// The node's journal, and the greatest stamp that its thread has seen.
@@ -41,7 +41,7 @@ pub(crate) trait Hearer {
     /// state has no more to let go of anything.
     fn may_come(&self, ask: &Ask) -> bool;
 
-    /// The node's thread has seen this stamp: what is entered from then on comes after it.
+    /// The node's thread has seen this stamp: its later entries come after it.
     fn see(&mut self, at: Stamp)
         ensures journal { (notes self.new).journal ≡ (notes self.old).journal }
         ensures seen { (notes self.new).seen ≡ max (notes self.old).seen at }

@@ -85,7 +85,7 @@ pub struct Recover {
     pub mark: Vec<u8>,
 }
 
-/// What was read of a script.
+/// The parts of a script that were read.
 #[derive(Drop)]
 struct Found {
     config: Option<Config>,

@@ -12,7 +12,7 @@ use crate::whose::header_number;
 use fr_record::{Device, RecordFault};
 use std::alloc::Global;
 
-/// What a device begins with.
+/// The beginning of a device.
 #[derive(Clone, Copy, Debug, PartialEq, Eq)]
 pub enum First {
     /// Fewer bytes than a gate has.

@@ -40,7 +40,7 @@ pub trait GroupFile: Drop {
     /// records have P.
     ghost Throughout: { (List (List ℕ) → Type 0) → Self → Self → Type 0 };
 
-    /// What has P has Q too.
+    /// Everything that has P has Q too.
     ghost weaker: { (P Q : List (List ℕ) → Type 0) (f g : Self) → ((rs : List (List ℕ)) → P rs → Q rs) → Throughout P f g → Throughout Q f g };
 
     /// One way after another.

@@ -27,7 +27,7 @@ impl Health {
         }
     }
 
-    /// A fault of a call that puts nothing. What was in flight before stays in flight.
+    /// A fault of a call that puts nothing. A group that was in flight stays so.
     pub(crate) fn fail(&mut self)
         ensures { self.new ≡ failed_now self.old }
     {

@@ -26,7 +26,7 @@ pub fn damage_law()
     ensures rest { RestIsFree }
 {}
 
-/// What the first record of a file says: one number and one identity, and an identity one cluster, one node and one
+/// The first record of a file: it has one number and one identity, and an identity has one cluster, one node and one
 /// shape.
 pub fn header_law()
     ensures one_file { OneFile }

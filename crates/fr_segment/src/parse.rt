@@ -11,7 +11,7 @@ use crate::place::Place;
 use fr_record::RecordFault;
 use std::alloc::Global;
 
-/// What was read of a file.
+/// The parts of a file that were read.
 #[derive(Drop)]
 pub(crate) struct Found {
     /// Where its records are.

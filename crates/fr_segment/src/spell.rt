@@ -85,8 +85,8 @@ pub(crate) fn headed_body(
     Ok(bytes)
 }
 
-/// What is written behind the closed gate for a group of this body: its length and the body, each with a checksum, a
-/// closed gate, and a guard.
+/// The bytes behind the closed gate for a group of this body: its length and the body, each with a checksum, a closed
+/// gate, and a guard.
 pub(crate) fn behind_gate(alloc: Global, number: u64, body: &[u8]) -> Result<Vec<u8>, AllocError>
     requires short { length body.now < 2 ^ 32 }
     requires next { number + 1 < 2 ^ 64 }

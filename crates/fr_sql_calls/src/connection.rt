@@ -162,7 +162,7 @@ pub fn above<S: Backing>(
     }
 }
 
-/// What a key held before the least version above one at which it has an undo row, if it has one there.
+/// A key's value before the least version above this one at which it has an undo row, if it has one there.
 pub fn first_above<S: Backing>(
     conn: &mut Connection<S>,
     key: &Bytes,

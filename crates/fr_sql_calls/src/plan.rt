@@ -46,7 +46,7 @@ pub(crate) fn plan_apply<S: Backing>(
     })
 }
 
-/// What an undo to an earlier version is to make of the tables.
+/// Plans an undo to an earlier version.
 pub(crate) fn plan_undo<S: Backing>(
     alloc: Global,
     conn: &mut Connection<S>,

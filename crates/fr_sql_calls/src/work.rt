@@ -13,7 +13,7 @@ use fr_undo::Change;
 use sqlite::Transaction;
 use std::collections::BTreeMap;
 
-/// What a transaction does with the undo rows.
+/// A transaction's work on the undo rows.
 #[derive(Debug, Drop)]
 pub enum RowWork {
     /// They stay as they are.
@@ -26,7 +26,7 @@ pub enum RowWork {
     DropThrough(Version),
 }
 
-/// What a transaction writes into the one row of `meta`.
+/// A transaction's work on the one row of `meta`.
 #[derive(Debug, Drop)]
 pub enum MetaWork {
     /// The version applied and the floor; the bytes stay.
@@ -40,9 +40,9 @@ pub enum MetaWork {
 pub struct Work {
     /// By key: its old value and its new one. Equal ones write nothing.
     pub changes: BTreeMap<Bytes, Change>,
-    /// What happens to the undo rows, in the same transaction.
+    /// The work on the undo rows, in the same transaction.
     pub rows: RowWork,
-    /// What is written into the one row of `meta`, in the same transaction.
+    /// The work on the one row of `meta`, in the same transaction.
     pub meta: MetaWork,
 }
 
@@ -68,7 +68,7 @@ fn put_one<S: Backing>(
     }
 }
 
-/// Gives a key what its change says, if that is something else than it held.
+/// Makes a key's change, if its new value differs from its old one.
 fn write_one<S: Backing>(
     tx: &mut Transaction<'_, S>,
     key: &Bytes,

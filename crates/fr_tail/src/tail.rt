@@ -105,7 +105,7 @@ impl Tail {
         self.take(number, peeked).map_err(|_| TailFault::Memory)
     }
 
-    /// Takes an answer that goes on from what is copied of a tag.
+    /// Takes an answer that begins where the copy of the tag ends.
     fn take(&mut self, number: usize, peeked: Peeked) -> Result<(), Memory>
         requires tag { number < length self.old.parts }
         requires sound { IsPeeked peeked }

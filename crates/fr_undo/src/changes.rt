@@ -19,9 +19,9 @@ use std::collections::BTreeMap;
 /// A key's fate, from its old and its new value.
 #[derive(Debug, Drop)]
 pub struct Change {
-    /// What it holds before: a value, or none.
+    /// Its old value, or none.
     pub before: Option<Bytes>,
-    /// What it takes: a value, or none.
+    /// Its new value, or none.
     pub after: Option<Bytes>,
 }
 

@@ -101,7 +101,7 @@ impl Plan {
     }
 }
 
-/// Plans what a key is to hold, if nothing is planned of it yet.
+/// Plans a key's value, if nothing is planned of it yet.
 pub(crate) fn add(
     alloc: Global,
     plan: &mut Plan,
@@ -144,7 +144,7 @@ fn set(alloc: Global, plan: &mut Plan, key: Bytes, after: Option<Bytes>) -> Resu
     Ok(())
 }
 
-/// What a key holds, outside of ranges that are cleared, lent.
+/// A key's value, lent, unless a cleared range has the key.
 fn held_outside<'a>(
     contents: &'a BTreeMap<Bytes, Bytes>,
     cleared: &[(Bytes, Bytes)],
@@ -159,7 +159,7 @@ fn held_outside<'a>(
     }
 }
 
-/// Plans what a mutation makes of the value that its key has by the plan so far.
+/// Plans a mutation's result on the value that its key has by the plan so far.
 fn combine(
     alloc: Global,
     contents: &BTreeMap<Bytes, Bytes>,
@@ -216,7 +216,7 @@ fn keys_between(
     Ok(keys)
 }
 
-/// Drops what is planned of the keys from `begin` up to `end`.
+/// Drops the plans of the keys from `begin` up to `end`.
 fn drop_between(alloc: Global, plan: &mut Plan, begin: &Bytes, end: &Bytes) -> Result<(), Memory>
     requires plan { IsPlan plan.old }
     requires forward { is_lt (bytes_cmp begin.now end.now) ≡ true }

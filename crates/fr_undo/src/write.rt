@@ -82,7 +82,7 @@ fn give_all(
     Ok(())
 }
 
-/// Gives a key back what it held before it took its value.
+/// Gives a key its old value back.
 fn take_back_one(contents: &mut BTreeMap<Bytes, Bytes>, key: &Bytes, fate: Fate)
     requires { HasPlace fate (tree.get bytes_cmp contents.old key.now) }
     ensures { (q : List ℕ) → tree.get bytes_cmp contents.new q

@@ -47,7 +47,7 @@ impl Model for World {
     ghost invariant = { λ w. IsKept w.nodes.value };
 }
 
-/// Says what is promised of the nodes, and does nothing.
+/// Says the promises of the nodes, and does nothing.
 fn is_safe(kept: &Nodes)
     requires { IsKept kept.now }
     ensures { IsSafe (state_of kept.now).config (state_of kept.now).turns }
@@ -192,7 +192,7 @@ impl World {
         self.nodes.last_of(alloc, &node)
     }
 
-    /// What happened, the oldest first: each event with the asks and the answer that it gave.
+    /// The history, the oldest turn first: each event with the asks and the answer that it gave.
     pub fn turns(&self) -> &[Turn]
         ensures { history_of result.now ≡ self.now.turns }
     {

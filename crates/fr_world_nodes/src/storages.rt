@@ -48,7 +48,7 @@ pub fn tell_server(
     Ok(fault)
 }
 
-/// Tells a server what a node told, and answers why it refuses that. Out of memory it may be left failed.
+/// Hands a server a node's reply, and answers why it refuses that. Out of memory it may be left failed.
 fn told(
     alloc: Global,
     server: &mut Storage<MapStore>,
@@ -66,8 +66,7 @@ fn told(
     }
 }
 
-/// Tells a server what a log of an epoch told it, and answers why it refuses that. Out of memory the server may be
-/// left failed.
+/// Hands a server a log's reply, and answers why it refuses that. Out of memory the server may be left failed.
 fn hear(
     alloc: Global,
     server: &mut Storage<MapStore>,
@@ -102,7 +101,7 @@ fn refusal(heard: Result<(), StorageFault>) -> Result<Option<StorageFault>, Memo
     }
 }
 
-/// What the server of a shard answers a read of a key at a version. It stays as it is.
+/// The answer of a shard's server to a read of a key at a version. The server stays as it is.
 pub fn read_server(
     alloc: Global,
     server: &mut Storage<MapStore>,
@@ -129,7 +128,7 @@ pub fn may_break(server: &Storage<MapStore>, from: &NodeId, tell: &Tell, version
     }
 }
 
-/// Whether a server's hear of what a log of an epoch told it can break off at a version.
+/// Whether a server's hear of a log's reply can break off at a version.
 fn breaks_in(server: &Storage<MapStore>, epoch: Epoch, tell: &LogTell, version: Version) -> bool
     requires { server.now.failed ≡ false }
     ensures { result ≡ breaks_in (server_of server.now) epoch (told.Log tell.now) version }
@@ -167,8 +166,8 @@ pub fn break_server(
     if is_broken { Ok(()) } else { unreachable!() }
 }
 
-/// Tells a server what a node told it, and breaks off at a version; answers whether it can. Out of memory the server
-/// may be left failed.
+/// Hands a server a node's reply, and breaks off at a version; answers whether it can. Out of memory the server may be
+/// left failed.
 fn break_from(
     alloc: Global,
     server: &mut Storage<MapStore>,
@@ -189,8 +188,8 @@ fn break_from(
     }
 }
 
-/// Tells a server what a log of an epoch told it, and breaks off at a version; answers whether it can. Out of memory
-/// the server may be left failed.
+/// Hands a server a log's reply, and breaks off at a version; answers whether it can. Out of memory the server may be
+/// left failed.
 fn break_off(
     alloc: Global,
     server: &mut Storage<MapStore>,
@@ -222,7 +221,7 @@ fn broken(heard: Result<bool, StorageFault>) -> Result<bool, Memory>
     }
 }
 
-/// What others see of a server, by a copy of it.
+/// A server's state as others see it, by a copy.
 pub fn last_of_copy(alloc: Global, server: &Storage<MapStore>) -> Result<Last, Memory>
     requires { server.now.failed ≡ false }
     ensures { IfOk result (λ told. told ≡ last.last_of_storage (server_of server.now)) }

@@ -34,7 +34,7 @@ pub(crate) fn enter_rest(
     Ok(())
 }
 
-/// Enters what was asked and told in the turn at a place.
+/// Enters the asks and the reply of the turn at a place.
 fn enter_at(alloc: Global, turns: &[Turn], places: &mut Places, place: usize) -> Result<(), Memory>
     ensures grows { Grows places.old places.new }
     ensures found { OnOk result (IfSome (slice_get turns.now place) (λ t. IsFound turns.now places.new (turn_of t))) }
@@ -45,7 +45,7 @@ fn enter_at(alloc: Global, turns: &[Turn], places: &mut Places, place: usize) ->
     }
 }
 
-/// Enters what was asked and told in a turn.
+/// Enters the asks and the reply of a turn.
 fn enter(
     alloc: Global,
     turns: &[Turn],

@@ -8,7 +8,7 @@ use std::alloc::Global;
 use std::collections::BTreeMap;
 use std::slice::from_ref;
 
-/// What one node asked or told another, and the two nodes, each as one number.
+/// A request or a reply, and its two nodes, each as one number.
 pub(crate) type Key = (u64, u64, u64);
 
 /// The places of each key.

@@ -83,7 +83,7 @@ fn write_answer(alloc: Global, answer: Result<Answer, Memory>) -> RowTold {
     }
 }
 
-/// Why a storage server did not take what it heard.
+/// Why a storage server refused a reply.
 fn write_refused(alloc: Global, fault: StorageFault) -> RowTold {
     let name = named(alloc, &fault)?;
     Ok(Object::new(alloc).put("refused", Ok(name))?.into_value())
@@ -97,7 +97,7 @@ fn state(world: &World, row: &mut RowAsk) -> RowTold {
     }
 }
 
-/// What the storage server of a tag answers a read of a key at a version.
+/// The answer of a tag's storage server to a read of a key at a version.
 fn read(world: &mut World, row: &mut RowAsk) -> RowTold {
     let (tag, version) = (row.get("tag")?, row.get("version")?);
     let key: Bytes = row.get("key")?;

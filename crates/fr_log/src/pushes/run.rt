@@ -105,7 +105,7 @@ impl Run {
         put_evenly(&self.first, self.step, self.more, list)
     }
 
-    /// Takes one more header, if that follows evenly; the second one says what the step is.
+    /// Takes one more header, if that follows evenly; the second one sets the step.
     pub(crate) fn add(&mut self, header: &PushHeader) -> bool
         ensures yes { IsTrue result → self.new ≡ self.old ++ header.now ∷ [] }
         ensures no { result ≡ false → self.new ≡ self.old }

@@ -7,7 +7,7 @@ use crate::atomic::AtomicOp;
 use crate::mutation::Mutation;
 use fr_base::Bytes;
 
-/// What the byte before the fields of a mutation says.
+/// The kind in the byte before the fields of a mutation.
 #[derive(Clone, Copy, Debug, PartialEq, Eq)]
 pub(super) enum Kind {
     Set,

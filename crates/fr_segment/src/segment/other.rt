@@ -34,7 +34,7 @@ impl<D: Device> Segment<D> {
         self.device.capacity()
     }
 
-    /// What the device begins with, whether the file works or not.
+    /// The beginning of the device, whether the file works or not.
     pub(crate) fn first(&mut self, alloc: Global, identity: &[u8]) -> Result<First, OpenFault>
         ensures missing { (result ≡ Ok First.Missing) → length (D.disk self.old.device).content < 2 }
         ensures closed { (result ≡ Ok First.Closed) → HoldsNothing (D.disk self.old.device).content }

@@ -96,7 +96,7 @@ impl Nodes {
         Ok(told.handed)
     }
 
-    /// Makes a log, if it was never asked. What a world is by its turns stays.
+    /// Makes a log, if it was never asked. The world's turns stay, and what follows from them.
     fn make_log(&mut self, alloc: Global, id: LogId) -> Result<(), Memory>
         requires kept { IsKept self.old }
         requires there { id.index < nodes.logs_at (state_of self.old).config (state_of self.old).turns id.epoch }

@@ -23,7 +23,7 @@ use fr_run::laws::node_laws;
 use std::alloc::Global;
 
 impl Nodes {
-    /// A proxy hears a tell; answers what it says of its batch.
+    /// A proxy hears a reply; answers its word on its batch.
     pub fn tell_proxy(
         &mut self,
         alloc: Global,

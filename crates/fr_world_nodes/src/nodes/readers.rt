@@ -32,7 +32,7 @@ impl Nodes {
         self.storages.get(usize::from(tag.get()))
     }
 
-    /// What the storage server of a tag answers a read of a key at a version.
+    /// The answer of a tag's storage server to a read of a key at a version.
     pub fn read(
         &mut self,
         alloc: Global,
@@ -91,7 +91,7 @@ impl Nodes {
         }
     }
 
-    /// What others see of a node's last state.
+    /// A node's last state as others see it.
     pub fn last_of(&self, alloc: Global, node: &NodeId) -> Result<Option<Last>, Memory>
         requires { IsKept self.now }
         ensures { IfOk result (λ last. last ≡ last_at (state_of self.now).config (state_of self.now).turns node.now) }
