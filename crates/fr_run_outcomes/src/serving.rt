@@ -43,8 +43,9 @@ pub fn loss_law()
 }
 
 /// Take a committed version from a storage server's floor through the version applied, not above the cut of the
-/// server's own epoch. What the server has there, once all that is above is undone, is its shard of the committed map
-/// at that version. The floor is such a version. Each stays one, with the same contents, until the floor passes it.
+/// server's own epoch in the latest line: a later epoch may have numbered versions above that cut with other batches.
+/// What the server has there, once all that is above is undone, is its shard of the committed map at that version. The
+/// floor is such a version. Each stays one, with the same contents, until the floor passes it.
 pub fn snapshot_law()
     ensures snapshot { SettledIsSnapshot }
     ensures floor { FloorIsSettled }
