@@ -12,8 +12,8 @@
 //!    end alone, and it is complete once each tag has come to `rv`.
 //! 4. A refused answer changes nothing, and so does one for which there is no memory (`refusal_law`). It can be heard
 //!    again.
-//! 5. A seed has the records of the log's tags by version and then by tag. Every log of the new generation and every
-//!    repeat of its seed gets the same list, so a log can compare two seeds.
+//! 5. A seed has the records of the log's tags by version and then by tag. So every repeat of a log's seed is the same
+//!    list, and a log can tell a repeat from another seed.
 #![tactic(auto)]
 
 mod fault;
