@@ -67,7 +67,7 @@ is_same_saying a b = false
 abbrev pub has_outcome : Answer → Option Outcome → Bool
 has_outcome a o = is_same_saying (outcome_in a) o
 
--- whether an act agrees with the world's answer: with the reply, or with the outcome of a reply that was heard
+-- whether an act says what the world answers: what was told, and the outcome of what was heard
 abbrev pub says : Act → Answer → Bool
 says (Asked from ask tell) a = is_told a tell
 says (Heard from tell taken o) a = has_outcome a o

@@ -14,7 +14,7 @@ use Rattle.fr_audit_journal.specs.declared.act.Act.{Act}
 use Rattle.fr_audit_journal.specs.declared.act.Act.TheVariants.{Asked, Heard, Submitted, Begun, Crashed, Lost}
 use Rattle.fr_audit.specs.Entry.{event_of, outcome_in}
 
--- an act agrees with the world's answer: with the reply, or with the outcome of a reply that was heard
+-- an act says what the world answers: what was told, and the outcome of what was heard
 abbrev pub Says : Act → Answer → Type 0
 Says (Asked from ask tell) a = a ≡ answer.Told tell
 Says (Heard from tell taken o) a = outcome_in a ≡ o

@@ -31,8 +31,8 @@ pub fn audit(alloc: Global, config: Config, journals: &[Journal]) -> Result<Worl
     }
 }
 
-/// As [`audit`], and a fault comes with the rules' word at that place: why an entry cannot happen, the reply that the
-/// world gives, or the state in which it leaves the node.
+/// As [`audit`], and a fault comes with what the rules say there: why an entry cannot happen, what the world tells at
+/// it, or the state in which it leaves the node.
 pub fn examine(alloc: Global, config: Config, journals: &[Journal]) -> Result<World, Finding>
     ensures config { IfOk result (λ world. world.config ≡ config) }
     ensures turns { IfOk result (λ world. rule.found config journals.now ≡ Ok world.turns) }
@@ -44,7 +44,6 @@ pub fn examine(alloc: Global, config: Config, journals: &[Journal]) -> Result<Wo
     let Ok(world) = World::start(alloc, config) else {
         return Err(Finding::Memory);
     };
-    // Every entry before the last states: a state that differs says less than the first entry that cannot be.
     let world = enter_all(alloc, world, entries.as_slice())?;
     match first_unlike(alloc, &world, journals) {
         Ok(None) => Ok(world),
@@ -62,7 +61,6 @@ fn enter_all(alloc: Global, world: World, entries: &[NodeEntry]) -> Result<World
 {
     let mut world = world;
     for (number, entry) in entries.iter().enumerate() {
-        // Equal places stand side by side after the merge, so a look at the entry before is enough.
         let repeated = is_repeated(entries, number, entry);
         match enter(alloc, world, repeated, number, entry) {
             Ok(next) => world = next,
@@ -109,7 +107,6 @@ fn enter(
     ensures finding { IfErr result (λ finding. finding ≢ Finding.Memory
         → after_this world.config world.turns repeated number (placed_of entry.now) ≡ Err finding) }
 {
-    // First of all: two entries at one place have no order, so nothing can be said of either.
     if repeated {
         return Err(no_run(number, Cause::Repeated));
     }
@@ -118,7 +115,6 @@ fn enter(
         Ok(None) => return Err(no_run(number, Cause::NoSuchAct)),
         Err(_) => return Err(Finding::Memory),
     };
-    // The world is given up at a fault, so no server has to be copied before each event.
     match world.step_owned(alloc, event) {
         Ok((after, answer)) => {
             if says(&entry.entry.act, &answer) {

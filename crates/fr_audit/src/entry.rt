@@ -63,19 +63,18 @@ fn lose_of(node: NodeId) -> Option<Event>
     }
 }
 
-/// Whether an act agrees with the world's answer: with the reply to its ask, or with the outcome of a reply that it
-/// heard.
+/// Whether an act says what the world answers: what it was told, or the outcome of what it heard.
 pub fn says(act: &Act, answer: &Answer) -> bool
     ensures { result ≡ entry.says act.now answer.now }
 {
     match act {
         Act::Asked { tell, .. } => is_told(answer, tell),
         Act::Heard { outcome, .. } => has_outcome(answer, outcome),
-        // The other acts are events whose answer is in the world alone.
         _ => true,
     }
 }
 
+/// Whether an answer is this tell.
 fn is_told(answer: &Answer, tell: &Tell) -> bool
     ensures { result ≡ entry.is_told answer.now tell.now }
 {
@@ -90,15 +89,14 @@ fn has_outcome(answer: &Answer, outcome: &Option<Outcome>) -> bool
     ensures { result ≡ entry.has_outcome answer.now outcome.now }
 {
     match (answer, outcome) {
-        // A proxy's word is part of its journal, because clients rely on it.
         (Answer::Heard(heard), Some(outcome)) => is_same_outcome(heard, outcome),
         (Answer::Heard(_), None) => false,
-        // Only a proxy has an outcome.
         (_, Some(_)) => false,
         (_, None) => true,
     }
 }
 
+/// Whether two outcomes are one.
 fn is_same_outcome(one: &Outcome, other: &Outcome) -> bool
     ensures { result ≡ entry.is_same_outcome one.now other.now }
 {

@@ -10,7 +10,7 @@ pub enum AuditFault {
     /// This entry is no event that can happen there; or it has the stamp and the node of the entry before.
     #[error("not a run at {at}")]
     NotARun { at: usize },
-    /// The reply of this entry, or its outcome, is not the one that the world gives.
+    /// What this entry was told, or the outcome that it has, is not what the world gives.
     #[error("tell differs at {at}")]
     TellDiffers { at: usize },
     /// The journal of this node was not closed, or not with the last state of the node; or there is no such node.

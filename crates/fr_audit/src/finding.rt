@@ -29,7 +29,7 @@ pub enum Finding {
     /// This entry is no event that can happen there, for this cause.
     #[error("not a run at {at}: {cause}")]
     NotARun { at: usize, cause: Cause },
-    /// The reply of this entry, or its outcome, is not the one that the world gives, which is `answer`.
+    /// What this entry was told, or the outcome that it has, is not what the world gives: this answer.
     #[error("tell differs at {at}")]
     TellDiffers { at: usize, answer: Answer },
     /// The journal of this node was not closed, or not with the last state of the node: this one. None: there is no

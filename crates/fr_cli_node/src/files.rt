@@ -24,14 +24,13 @@ use sqlite_std_file::{FileFrom, OpenError, Unknown};
 use std::alloc::Global;
 use std::io;
 
-/// The bytes with which each database begins.
+/// What each database begins with.
 const HEAD: &[u8] = b"SQLite format 3\0";
 
 /// A file of the host that is read once, when it is opened.
 pub(crate) type HostFile = Mirror<FileFrom<Unknown>>;
 
-/// The files of a storage server in a folder: a database and its log. New ones have to hold nothing, and others
-/// something.
+/// The files of a storage server in a folder: a database and its log. New ones have to hold nothing, and others something.
 pub(crate) fn store_files(
     host: &HostRuntime,
     alloc: Global,
@@ -65,7 +64,7 @@ pub(crate) fn store_files(
     }
 }
 
-/// The contents of a storage server's files.
+/// What the files of a storage server hold.
 #[derive(Clone, Copy, Debug, PartialEq, Eq)]
 enum Held {
     Nothing,

@@ -4,7 +4,7 @@ ghost use Rattle.std.specs.Prelude.{◌≡◌, IfOk};
 use fr_base::{Memory, Tag, Version};
 use fr_mutation::Batch;
 
-/// A seed's record of one shard at one version.
+/// What a seed brings for one shard at one version.
 #[derive(Clone, Debug, Drop, PartialEq, Eq)]
 pub struct SeedRecord {
     pub version: Version,
@@ -21,7 +21,7 @@ impl SeedRecord {
     }
 }
 
-/// A log's record of a peeked tag at one version.
+/// What a log gives of a peeked tag at one version.
 #[derive(Clone, Debug, Drop, PartialEq, Eq)]
 pub struct PeekedRecord {
     pub version: Version,

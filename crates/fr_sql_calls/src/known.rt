@@ -20,7 +20,7 @@ use sqlite::Connection;
 use std::alloc::Global;
 use std::collections::BTreeMap;
 
-/// Adds a key's value, if it is not known yet.
+/// Adds what a key holds, if it is not known yet.
 fn add(known: &mut BTreeMap<Bytes, Bytes>, key: &Bytes, held: Option<Bytes>) -> Result<(), Memory>
     requires { tree.get bytes_cmp known.old key.now ≡ None }
     ensures { OnOk result ((q : List ℕ) → tree.get bytes_cmp known.new q ≡ cond (is_same key.now q) held (tree.get bytes_cmp known.old q)) }
@@ -114,7 +114,7 @@ fn look<S: Backing>(
     }
 }
 
-/// The values of the keys on which a batch acts: each is looked up once, and each range by one statement.
+/// What the keys hold on which a batch acts: each is looked up once, and each range by one statement.
 pub(crate) fn held_by<S: Backing>(
     alloc: Global,
     conn: &mut Connection<S>,
@@ -179,7 +179,7 @@ pub(crate) fn rows_above<S: Backing>(
     Ok(tree_of(alloc, rows)?)
 }
 
-/// The present values of the keys of undo rows.
+/// What the keys of undo rows hold now.
 pub(crate) fn held_at<S: Backing>(
     alloc: Global,
     conn: &mut Connection<S>,

@@ -13,7 +13,7 @@ use fr_undo::Change;
 use sqlite::Transaction;
 use std::collections::BTreeMap;
 
-/// A transaction's work on the undo rows.
+/// What a transaction does with the undo rows.
 #[derive(Debug, Drop)]
 pub enum RowWork {
     /// They stay as they are.
@@ -26,7 +26,7 @@ pub enum RowWork {
     DropThrough(Version),
 }
 
-/// A transaction's work on the one row of `meta`.
+/// What a transaction writes into the one row of `meta`.
 #[derive(Debug, Drop)]
 pub enum MetaWork {
     /// The version applied and the floor; the bytes stay.
@@ -38,11 +38,11 @@ pub enum MetaWork {
 /// All that one transaction does to the three tables.
 #[derive(Debug, Drop)]
 pub struct Work {
-    /// By key: its old value and its new one. Equal ones write nothing.
+    /// By key: what it holds, and what it is to hold. Equal ones write nothing.
     pub changes: BTreeMap<Bytes, Change>,
-    /// The work on the undo rows, in the same transaction.
+    /// What happens to the undo rows, in the same transaction.
     pub rows: RowWork,
-    /// The work on the one row of `meta`, in the same transaction.
+    /// What is written into the one row of `meta`, in the same transaction.
     pub meta: MetaWork,
 }
 
@@ -68,7 +68,7 @@ fn put_one<S: Backing>(
     }
 }
 
-/// Makes a key's change, if its new value differs from its old one.
+/// Gives a key what its change says, if that is something else than it held.
 fn write_one<S: Backing>(
     tx: &mut Transaction<'_, S>,
     key: &Bytes,
@@ -197,7 +197,7 @@ fn note_all<S: Backing>(
     Ok(count)
 }
 
-/// Updates the undo rows, and counts those that are there then.
+/// Makes of the undo rows what they are to become, and counts those that are there then.
 fn fill_rows<S: Backing>(
     tx: &mut Transaction<'_, S>,
     work: &RowWork,
@@ -231,7 +231,7 @@ fn fill_rows<S: Backing>(
     }
 }
 
-/// Updates the row of `meta`.
+/// Makes of the row of `meta` what it is to become.
 fn fill_meta<S: Backing>(tx: &mut Transaction<'_, S>, work: &MetaWork) -> Result<usize, Refused>
     requires inside { IsInside (state S.Store tx.old.conn.now) }
     requires laid { IsLaidOut (state S.Store tx.old.conn.now).now }
@@ -248,7 +248,7 @@ fn fill_meta<S: Backing>(tx: &mut Transaction<'_, S>, work: &MetaWork) -> Result
     }
 }
 
-/// Updates all three tables, in a transaction, and counts the undo rows that are there then.
+/// Makes of the tables what they are to become, in a transaction, and counts the undo rows that are there then.
 pub(crate) fn fill<S: Backing>(
     tx: &mut Transaction<'_, S>,
     work: &Work,

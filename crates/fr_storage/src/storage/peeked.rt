@@ -73,7 +73,7 @@ impl<S: ShardStore> Storage<S> {
         }
     }
 
-    /// Why an answer of a log of an epoch is refused, from the numbers that the server keeps beside its store.
+    /// Why an answer of a log of an epoch is refused, by what the server keeps.
     fn peeked_refusal(&self, epoch: Epoch, peeked: &Peeked) -> Option<StorageFault>
         requires { self.now.failed ≡ false }
         ensures { result ≡ peeked_fault (storage_of S.state self.now) epoch peeked.now }
@@ -127,8 +127,8 @@ impl Reach {
     }
 }
 
-/// Makes the calls of a store at an answer that is not refused. It applies the new records, advances to the end of the
-/// answer or of the generation, and forgets the undo rows of versions that are known to be committed.
+/// Makes the calls of a store at an answer that is not refused. It applies what is new, advances to the end
+/// of the answer or of the generation, and forgets the undo rows of what is known to be committed.
 fn pull<S: ShardStore>(
     alloc: Global,
     store: &mut S,
