@@ -15,8 +15,9 @@ from making.sources import TOP, read
 LEAST = 20
 # the crates whose rules are subtle, each with numbered invariants at its head
 SUBTLE = (
-    "fr_epoch fr_host fr_log fr_record fr_record_log fr_run_headline fr_runtime_station fr_runtime_threads "
-    "fr_segment fr_sql_calls fr_storage fr_undo fr_world"
+    "fr_audit_journal fr_compact fr_epoch fr_host fr_log fr_node fr_proxy fr_record fr_record_log fr_record_node "
+    "fr_register fr_run_headline fr_runtime_station fr_runtime_threads fr_segment fr_sql_calls fr_storage fr_tail "
+    "fr_undo fr_world"
 ).split()
 # what a comment with a reason has: a word that gives one, or the number of an invariant
 REASON = re.compile(
@@ -75,11 +76,12 @@ class Count:
     """The counts of one crate."""
 
     def __init__(self, crate):
-        self.crate, self.lines, self.comments, self.reasons, self.docs = crate, 0, 0, 0, 0
+        self.crate, self.lines, self.comments, self.reasons, self.docs, self.every = crate, 0, 0, 0, 0, 0
         self.cited = []
         for path, text in sources(crate).items():
             self.lines += code_lines(text)
             for is_doc, number, said in blocks(text):
+                self.every += len(said)
                 has_reason = bool(REASON.search(" ".join(said)))
                 if is_doc:
                     self.docs += len(said) * has_reason
@@ -109,10 +111,22 @@ def heads():
     return found
 
 
+def total(counts):
+    """The same of all crates together, and all comments beside their code, with a reason or without."""
+    lines, comments = sum(it.lines for it in counts), sum(it.comments for it in counts)
+    parts = (sum(getattr(it, part) for it in counts) for part in ("reasons", "docs", "every"))
+    reasons, docs, every = (1000 * it / lines for it in parts)
+    return (
+        f"all {len(counts)} crates: {comments} comments in bodies; with a reason in 1,000 lines of code: {reasons:.0f} "
+        f"lines of these, {docs:.0f} of doc comments; lines of comments of any kind: {every:.0f}"
+    )
+
+
 def why_counts():
-    """Of each crate its counts, those whose rules are subtle first: of the others for information alone."""
+    """Of each crate its counts, first of those whose rules are subtle, since the others have no limit; then of all."""
     rest = sorted(set(os.listdir(f"{TOP}/crates")) - set(SUBTLE))
-    return [Count(it).row() for it in [*SUBTLE, *rest] if os.path.isdir(f"{TOP}/crates/{it}/src")]
+    counts = [Count(it) for it in [*SUBTLE, *rest] if os.path.isdir(f"{TOP}/crates/{it}/src")]
+    return [*(it.row() for it in counts), total(counts)]
 
 
 def why_faults():

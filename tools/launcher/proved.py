@@ -71,9 +71,9 @@ class Build:
         return status
 
     def libraries(self, names):
-        """Proves libraries, each once those below it are done: two side by side, where there are two processors. The
-        processors are shared out among those that begin and those that run, at most four to each. Where one fails no
-        further one begins."""
+        """Proves libraries, each once those below it are done: two side by side, where there are two processors, since
+        one 'rt run' proves one after another. The processors are shared out among those that begin and those that run,
+        at most four to each. Where one fails no further one begins."""
         uses = crates.uses(self.top)
         processors = int(os.environ.get("FDBREC_PROCESSORS") or len(os.sched_getaffinity(0)))
         most, waiting, failed = 2 if processors > 1 else 1, list(names), False

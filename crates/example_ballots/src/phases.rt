@@ -15,7 +15,7 @@ pub struct ReadOutcome {
     pub value: CellValue,
 }
 
-/// The cell of this index is asked to read, and the tally hears what it tells.
+/// The cell of this index is asked to read, and the tally hears the reply.
 fn ask_read(
     alloc: Global,
     ballot: Ballot,
@@ -31,7 +31,7 @@ fn ask_read(
     Ok(())
 }
 
-/// The cell of this index is asked to write, and the tally hears what it tells.
+/// The cell of this index is asked to write, and the tally hears the reply.
 fn ask_write(
     alloc: Global,
     ballot: Ballot,

@@ -5,7 +5,7 @@ use crate::phases::ReadOutcome;
 use fr_base::Ballot;
 use fr_register::{Cell, Progress};
 
-/// What a ballot found by its reads, and what its writes came to.
+/// The value that a ballot's reads found, and the outcome of its writes.
 #[derive(Debug, Drop)]
 pub struct Attempt {
     pub found: ReadOutcome,
@@ -20,7 +20,7 @@ pub struct Cells {
     pub right: Cell,
 }
 
-/// What the two ballots came to, and what the cells then are.
+/// The outcomes of the two ballots, and the cells at the end.
 #[derive(Debug, Drop)]
 pub struct SceneEnd {
     pub first: Attempt,

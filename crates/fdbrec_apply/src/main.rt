@@ -37,5 +37,6 @@ fn main(rt: HostRuntime) -> ExitCode {
     status
 }
 
-/// What says where a script is bad: the table of forms stands above what this program is made of.
+/// The hint how to find the place of a mistake: the table of forms stands above everything that this program is made
+/// of.
 const TIP: &str = "  tip: 'docs/schema/validate apply FILE' names the place";

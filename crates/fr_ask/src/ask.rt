@@ -10,7 +10,7 @@ use fr_base::Memory;
 use fr_log::LogAsk;
 use fr_register::CellAsk;
 
-/// What a node is asked: the ask of a cell, of a log or of a sequencer.
+/// A request to a node: the ask of a cell, of a log or of a sequencer.
 #[derive(Debug, Drop)]
 pub enum Ask {
     Cell(CellAsk),

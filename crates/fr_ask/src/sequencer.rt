@@ -1,4 +1,4 @@
-//! What a sequencer is asked, and what it tells.
+//! The asks of a sequencer, and its replies.
 ghost use Rattle.std.specs.Prelude.{◌≡◌, Ok};
 
 use fr_base::{Memory, Step, Version};
@@ -20,7 +20,7 @@ impl SeqAsk {
     }
 }
 
-/// What a sequencer tells.
+/// A sequencer's reply.
 #[derive(Clone, Copy, Debug, PartialEq, Eq)]
 pub enum SeqTell {
     /// The request has this version; `prev` is the version given before it, so that the versions of an

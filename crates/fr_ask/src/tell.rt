@@ -10,7 +10,7 @@ use fr_base::Memory;
 use fr_log::LogTell;
 use fr_register::CellTell;
 
-/// What a node tells: the tell of a cell, of a log or of a sequencer.
+/// A node's reply: the tell of a cell, of a log or of a sequencer.
 #[derive(Debug, Drop)]
 pub enum Tell {
     Cell(CellTell),

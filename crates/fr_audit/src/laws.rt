@@ -3,8 +3,8 @@ ghost use Rattle.fr_audit.specs.Law.{FaultIsFound, NotARunIsFirst, OkIsRun, RunI
 
 use fr_audit_journal::laws::merge_law;
 
-/// An audit has no fault exactly if the journals are a run, with its turns. A fault is the first one, and what is found
-/// with it is what the rules say there.
+/// An audit has no fault exactly if the journals are a run, with its turns. A fault is the first one, and the finding
+/// beside it has the rules' word at that place.
 pub fn audit_law()
     ensures run { OkIsRun }
     ensures ok { RunIsOk }

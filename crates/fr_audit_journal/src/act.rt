@@ -6,7 +6,7 @@ use fr_base::{Memory, NodeId, Shape, Stamp, Step, Version};
 use fr_mutation::Batch;
 use fr_proxy::Outcome;
 
-/// What a node does in one turn.
+/// A node's act in one turn.
 #[derive(Debug, Drop, PartialEq, Eq)]
 pub enum Act {
     /// A cell, a log or a sequencer was asked this by a node, and told it that.

@@ -86,6 +86,7 @@ where
         ensures entries { result.entries ≡ [] }
         ensures works { Works result }
     {
+        // The state now is the first: the journal has nothing that came before (invariant 2).
         let plain = node.plain();
         plain.stands();
         let first = Snapshot::of(plain);
@@ -99,7 +100,7 @@ where
         }
     }
 
-    /// What it did.
+    /// Its entries so far.
     pub fn journal(&self) -> &Journal
         ensures place { result.now.node ≡ self.now.place }
         ensures entries { result.now.entries ≡ self.now.entries }
@@ -121,9 +122,12 @@ where
         ensures fits { result ≡ None → greatest_stamp self.now stamp + 1 < 2 ^ 40 }
         ensures there { result ≡ None → is_gone self.now ≡ false }
     {
+        // Before the stamps are looked at, since no stamp would help: a node that is gone stays so (invariant 7).
         if self.is_gone {
             return Some(CallFault::Lost);
         }
+        // The ask in doubt may be entered before this one, at its own stamp, so the next stamp must fit above that too
+        // (invariant 4).
         let kept = match &self.kept {
             Some(kept) => kept.stamp.get(),
             None => 0,
@@ -192,13 +196,17 @@ where
         ensures full { (result ≡ Err (CallFault.Node NodeFault.Full)) → Works self.old → N.LacksRoom self.old.node ask }
         ensures trouble { IfErr result (IsTrouble N.CanMeet) }
     {
+        // Before the node is opened again, so that a call that is not taken changes nothing.
         if let Some(fault) = self.refusal(stamp) {
             return Err(fault);
         }
+        // No ask is served while another one is in doubt: the machine would not be in the state that the journal leads
+        // to (invariant 3).
         match self.settle(alloc, false) {
             Ok(()) => {}
             Err(fault) => return Err(CallFault::Node(fault)),
         }
+        // Chosen only now, because an ask that was found taken is entered first (invariant 4).
         let at = self.above(stamp);
         match self.serve_new(alloc, at, from, ask) {
             Ok(tell) => Ok((at, tell)),
@@ -248,10 +256,13 @@ where
         if let Some(fault) = self.refusal(stamp) {
             return Err(fault);
         }
+        // A crash opens even a node that works: its entry says that the node went on from what its device held
+        // (invariant 2).
         match self.settle(alloc, !is_lost) {
             Ok(()) => {}
             Err(fault) => return Err(CallFault::Node(fault)),
         }
+        // Chosen only now, because an ask that was found taken is entered first (invariant 4).
         let at = self.above(stamp);
         match self.enter_end(at, is_lost) {
             Ok(()) => Ok(at),
@@ -277,10 +288,14 @@ where
     {
         let mut housed = self;
         if housed.is_gone {
+            // A node that is gone is never opened again, so nobody finds out whether the ask was taken (invariants 3
+            // and 7).
             if housed.kept.is_some() {
                 return Err(NodeFault::Failed);
             }
         } else {
+            // Otherwise the journal could end with a state that the node is not in: a failed device may hold the ask
+            // (invariant 3).
             match housed.settle(alloc, false) {
                 Ok(()) => {}
                 Err(fault) => return Err(fault),

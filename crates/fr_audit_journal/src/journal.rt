@@ -50,7 +50,7 @@ impl Journal {
         self.node
     }
 
-    /// What it did, the oldest first.
+    /// Its entries, the oldest first.
     pub fn entries(&self) -> &[Entry]
         ensures value { result.now ≡ self.now.entries }
         ensures rise { Rise self.now.entries }
@@ -95,6 +95,8 @@ impl Journal {
         ensures not_rising { (result ≡ Err JournalFault.NotRising) ↔ (¬ IsAbove self.old.entries entry.stamp) }
         ensures err { OnErr result (self.new ≡ self.old) }
     {
+        // Before memory is asked for: an entry that does not fit is named so, however little memory there is
+        // (invariant 1).
         if !self.is_above(entry.stamp) {
             return Err(JournalFault::NotRising);
         }
@@ -160,7 +162,6 @@ impl Journal {
     }
 }
 
-/// Equal entries.
 fn copy_of(alloc: Global, entries: &[Entry]) -> Result<Vec<Entry>, Memory>
     ensures { IfOk result (λ copy. copy.items ≡ entries.now) }
 {

@@ -22,6 +22,8 @@ pub fn merge<'a>(alloc: Global, journals: &'a [Journal]) -> Result<Vec<NodeEntry
     ensures { IfOk result (λ entries. map placed_of entries.items ≡ merged journals.now) }
 {
     let mut entries = all_entries(alloc, journals)?;
+    // The sort is stable, so what two journals of one node say at one stamp keeps its order, and a verdict on them is
+    // the same each time.
     entries.sort_by(|one, other| place_order(one, other))?;
     Ok(entries)
 }
@@ -30,6 +32,8 @@ pub fn merge<'a>(alloc: Global, journals: &'a [Journal]) -> Result<Vec<NodeEntry
 fn place_order(one: &NodeEntry, other: &NodeEntry) -> Ordering
     ensures { result ≡ place_cmp (placed_of one.now) (placed_of other.now) }
 {
+    // Two acts of one stamp cannot depend on each other, since a node enters what it hears above its sender's stamp
+    // (invariant 1). So any order of nodes would do, as long as it is the same each time.
     one.entry
         .stamp
         .cmp(&other.entry.stamp)

@@ -1,4 +1,4 @@
-//! What housing does beside the journal: serving an ask, and what becomes of the one that met a fault.
+//! Housing beside the journal: serving an ask, and settling the one that met a fault.
 ghost use Rattle.std.specs.Prelude.{◌≡◌, ◌≢◌, ◌⊎◌, ◌||◌, ◌≤◌, ◌+◌, ◌-◌, ◌^◌, min, Err, Some, IfOk, OnOk, IfErr, OnErr, false};
 ghost use Rattle.fr_base.specs.declared.node.NodeFault.{NodeFault};
 ghost use Rattle.fr_base.specs.Faults.{met_device};
@@ -12,7 +12,6 @@ use crate::kept::AskInDoubt;
 use fr_base::{Machine, Node, NodeFault, NodeId};
 use std::alloc::Global;
 
-/// A crash or a loss, as an act.
 pub(crate) fn end_of(is_lost: bool) -> Act
     ensures { result ≡ end_of is_lost }
 {
@@ -23,6 +22,8 @@ pub(crate) fn end_of(is_lost: bool) -> Act
 pub(crate) fn is_gone_after(node: NodeId, is_lost: bool) -> bool
     ensures { result ≡ gone_after node false (end_of is_lost) }
 {
+    // A sequencer has its numbers in memory alone: started again, it would give the same versions a second time
+    // (invariant 7).
     is_lost || matches!(node, NodeId::Sequencer { .. })
 }
 
@@ -51,9 +52,11 @@ where
     ensures owes_still { result ≢ Err NodeFault.Device → N.owed node.new ≡ N.owed node.old }
     ensures trouble { N.is_failed node.old ≡ false → IfErr result (λ fault. (fault ≡ NodeFault.Memory) ⊎ N.CanMeet fault) }
 {
+    // Room for the entry comes first: an ask that was served has to be entered (invariant 2).
     if journal.reserve().is_err() {
         return Err(NodeFault::Memory);
     }
+    // A copy is served and the other one entered. It too is made before anything changes.
     let Ok(ask) = N::Plain::copy_ask(ask) else {
         return Err(NodeFault::Memory);
     };
@@ -65,6 +68,8 @@ pub(crate) fn left<A: Drop>(kept: Option<AskInDoubt<A>>) -> Option<AskInDoubt<A>
     ensures { result ≡ left_kept kept }
 {
     match kept {
+        // Once found taken an ask stays so, because the machine is behind it since: this opening is about its second
+        // serving (invariant 6).
         Some(kept) => { if kept.found { Some(kept) } else { None } }
         None => None,
     }

@@ -4,8 +4,8 @@ ghost use Rattle.std.specs.Prelude.{◌≡◌, ◌≢◌, ◌<◌, ◌≤◌, �
 use std::marker::Model;
 
 /// The number of an attempt at a recovery: `round * 256 + recoverer`, with a round of at least 1, so
-/// at least 256 and below 2^48. Beside these there is 0, the ballot of a cell that was never asked,
-/// which is no recoverer's. It is the ballot of disk Paxos (Gafni and Lamport, 2003).
+/// at least 256 and below 2^48. Beside these there is 0, the ballot of a cell that was never asked. It
+/// counts as used, so no recoverer has it. It is the ballot of disk Paxos (Gafni and Lamport, 2003).
 #[derive(Clone, Copy, Debug, PartialEq, Eq, PartialOrd, Ord)]
 pub struct Ballot {
     number: u64,
@@ -48,7 +48,7 @@ impl Ballot {
         self.number
     }
 
-    /// The epoch of what this ballot writes: there is one but for ballot 0, which writes nothing.
+    /// The epoch that this ballot writes; none for ballot 0, which writes nothing.
     pub fn epoch(self) -> Option<Epoch>
         ensures there { IsSome result ↔ (self ≢ 0) }
         ensures value { IfSome result (λ e. e ≡ self) }

@@ -8,16 +8,16 @@ use std::alloc::Global;
 /// A machine that answers each ask with a tell. Its answer and its next state are functions of its
 /// state and the ask alone.
 pub trait Machine {
-    /// What a machine is asked.
+    /// A request to the machine.
     type Ask;
 
-    /// What it answers.
+    /// Its reply.
     type Tell;
 
     /// The states that asks can lead a machine to.
     ghost IsReached: { Self → Type 0 };
 
-    /// What an ask is told.
+    /// The reply to an ask.
     ghost told: { Self → Self.Ask → Self.Tell };
 
     /// The state after an ask.
@@ -29,7 +29,8 @@ pub trait Machine {
     /// The asks that are answered without memory.
     ghost TakesNone: { Self → Self.Ask → Type 0 };
 
-    /// Answers an ask. Out of memory changes nothing.
+    /// Answers an ask. Out of memory changes nothing. It takes the allocator, because a tell may hold a list;
+    /// `TakesNone` has the asks that are answered without memory.
     fn step(&mut self, alloc: Global, ask: Self::Ask) -> Result<Self::Tell, Memory>
         ensures reached { IsReached self.new }
         ensures told { IfOk result (λ tell. tell ≡ told self.old ask) }

@@ -44,7 +44,7 @@ impl From<NoMemory> for NodeFault {
 pub enum Reopened {
     /// They left nothing.
     Before,
-    /// They were taken; asked again they are told what they would have been.
+    /// They were taken. Asked again, they get the replies that they would have got.
     After,
 }
 

@@ -11,7 +11,7 @@ use fr_part::Handle;
 use fr_part::calls::turns::{LineOf, ask_line, hear_line, submit_to, tell_line};
 use std::alloc::Global;
 
-/// Asks a machine what a line says, and gives the line of what it tells.
+/// Asks a machine what a line says, and gives its reply as a line.
 #[unsafe(no_mangle)]
 pub extern "C" fn fdbrec_ask(
     alloc: Global,
@@ -29,7 +29,8 @@ pub extern "C" fn fdbrec_ask(
     with_seat!(alloc, of, seat => ask_line(alloc, &mut seat, line, out, len))
 }
 
-/// Has a machine hear what a line says, a node and what it tells, and gives the line of what it then asks.
+/// Has a machine hear the reply in a line, which also names the node that sent it, and gives the machine's next asks as
+/// a line.
 #[unsafe(no_mangle)]
 pub extern "C" fn fdbrec_hear(
     alloc: Global,
@@ -52,8 +53,8 @@ pub extern "C" fn fdbrec_hear(
     with_seat!(alloc, of, seat => hear_line(alloc, &mut seat, line, out, len))
 }
 
-/// Has a proxy take a batch, whose version is to be `step` above the last one given, and gives the line of what it
-/// asks.
+/// Has a proxy take a batch, whose version is to be `step` above the last one given, and gives the proxy's asks as a
+/// line.
 #[unsafe(no_mangle)]
 pub extern "C" fn fdbrec_submit(
     alloc: Global,
@@ -79,7 +80,7 @@ pub extern "C" fn fdbrec_submit(
     with_seat!(alloc, of, seat => submit_to(alloc, &mut seat, step, batch, out, len))
 }
 
-/// Gives the line of what a machine said in its last turn again. It is no turn.
+/// Gives the line of a machine's last turn again. It is no turn.
 #[unsafe(no_mangle)]
 pub extern "C" fn fdbrec_answer(
     alloc: Global,
@@ -93,7 +94,7 @@ pub extern "C" fn fdbrec_answer(
     with_seat!(alloc, of, seat => tell_line(alloc, &seat, LineOf::Said, out, len))
 }
 
-/// Gives the line of what a machine asks now.
+/// Gives the asks of a machine that wait for a reply, as a line.
 #[unsafe(no_mangle)]
 pub extern "C" fn fdbrec_next(
     alloc: Global,

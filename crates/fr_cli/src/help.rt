@@ -1,6 +1,6 @@
 //! What is below the help of each command.
 
-/// What is below the help of `end`.
+/// The text below the help of `end`.
 pub(crate) const END_HELP: &str = "\
 The script is read from standard input. It has the replies of the locked logs of a generation,
 in the order in which they came:
@@ -36,7 +36,7 @@ docs/schema/validate end SCRIPT names the place at which a script is bad.
 Statuses: 0 done, refused replies included; 2 bad script, or bad words (also a K above M);
 3 out of memory; 4 input or output failed. A bad script prints no line.";
 
-/// What is below the help of `simulate`.
+/// The text below the help of `simulate`.
 pub(crate) const SIMULATE_HELP: &str = "\
 The script is read from standard input. It has the config of a system (a world), and steps:
 
@@ -106,7 +106,7 @@ docs/schema/validate simulate SCRIPT names the place at which a script is bad.
 Statuses: 0 done, refused steps included; 2 bad script, or bad words; 3 out of memory; 4 input or
 output failed. A bad script prints no line.";
 
-/// What is below the help of `audit`.
+/// The text below the help of `audit`.
 pub(crate) const AUDIT_HELP: &str = "\
 The script is read from standard input. It has the config of a system, as a script of simulate does, and
 the journal of each node, which says what the node did, entry by entry:
@@ -158,7 +158,7 @@ prints entry N.
 Statuses: 0 a run; 1 a fault of the journals; 2 bad script, or bad words; 3 out of memory; 4 input
 or output failed. A bad script prints no line.";
 
-/// What is below the help of `cluster`.
+/// The text below the help of `cluster`.
 pub(crate) const CLUSTER_HELP: &str = "\
 It runs coordinators, logs, a sequencer and proxies in memory, with a workload for each proxy, storage
 servers that pull, and recoverers. Each workload, storage server and recoverer has a thread. This is

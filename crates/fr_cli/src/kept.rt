@@ -50,7 +50,6 @@ impl<R: Read> Read for Kept<'_, R> {
     }
 }
 
-/// Whether a script is bad.
 pub(crate) fn is_bad(answer: Result<u8, CliFault>) -> bool {
     matches!(answer, Err(CliFault::BadScript))
 }

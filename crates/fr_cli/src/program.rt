@@ -17,14 +17,15 @@ use std::thread::Threads;
 /// Where the program says what is beside its output.
 #[derive(Clone, Copy, Debug)]
 pub struct Errors<'a, E> {
-    /// Standard error, or what stands for it.
+    /// Standard error, or a stand-in for it.
     pub to: &'a E,
     /// Whether that is a terminal.
     pub is_terminal: bool,
 }
 
-/// Does what the words ask for, the first of which is the program's name. A cluster says what it met to `errors`, and if
-/// this is a terminal how far it has come. Files are those of `host`. Of a bad script `place` says where it is bad.
+/// Runs the command named by `words`, of which the first is the program's name. `cluster` writes its counts to
+/// `errors`, and its progress if that is a terminal. Files are those of `host`. `place` gets the place at which a bad
+/// script is bad.
 pub fn run_program<H: Threads + Wait + Sync, E: Eprint + Sync, R: Read, W: Write>(
     rt: &H,
     errors: Errors<'_, E>,
@@ -96,7 +97,6 @@ fn apply_in_file<N: Notes, R: Read, W: Write>(
     in_file(alloc, name, answer)
 }
 
-/// How a command ends.
 fn ending(answer: Result<u8, CliFault>) -> Ending {
     match answer {
         Ok(status) => Ending::Done(status),

@@ -3,7 +3,6 @@ use clap::{Arg, ArgAction};
 use fr_base::Shape;
 use std::alloc::{AllocError, Global};
 
-/// The word with the shapes.
 pub(crate) fn shapes_word<'a>(alloc: Global) -> Arg<'a> {
     Arg::new(alloc, "shapes")
         .long("shapes")

@@ -12,7 +12,7 @@ use fr_cli_cluster::{ClusterOptions, ClusterWords, DEFAULTS};
 use fr_cli_end::EndOptions;
 use std::alloc::Global;
 
-/// What the words ask for.
+/// The command that the words name, with its options.
 #[derive(Debug, Drop, PartialEq, Eq)]
 pub enum Request {
     /// The operations of a script, run on an empty store.
@@ -27,8 +27,8 @@ pub enum Request {
     Simulate,
     /// The audit of a script's journals.
     Audit,
-    /// A cluster in threads, whose stores are of this kind, the audit of its journals, and the shapes of the generations
-    /// that recoveries open, in turn.
+    /// A cluster in threads, whose stores are of this kind, the audit of its journals, and the shapes of the
+    /// generations that recoveries open, in turn.
     Cluster(StoreWord, ClusterOptions, Vec<Shape>),
 }
 
@@ -39,7 +39,7 @@ pub fn read_words(alloc: Global, words: &[String]) -> Result<Request, Error> {
     read_request(alloc, &matches)
 }
 
-/// What the matches of words ask for. They have one of the commands: other words were refused.
+/// The command in the matches of words. They have one: other words were refused.
 fn read_request(alloc: Global, matches: &ArgMatches<'_>) -> Result<Request, Error> {
     if let Some(end) = matches.subcommand_matches("end") {
         return read_end(alloc, end);
@@ -89,8 +89,8 @@ fn read_end(alloc: Global, matches: &ArgMatches<'_>) -> Result<Request, Error> {
     }
 }
 
-/// Reads the options of `cluster`. Each of its numbers is within its limits, so what is left to be refused is words that
-/// do not go together, and bad shapes.
+/// Reads the options of `cluster`. Each of its numbers is within its limits, so what is left to be refused is words
+/// that do not go together, and bad shapes.
 fn read_cluster(alloc: Global, matches: &ArgMatches<'_>) -> Result<Request, Error> {
     let (words, kind) = (cluster_words(matches), read_store(matches));
     let Some(options) = ClusterOptions::new(words) else {
@@ -105,7 +105,7 @@ fn read_cluster(alloc: Global, matches: &ArgMatches<'_>) -> Result<Request, Erro
     }
 }
 
-/// What the words of `cluster` say, or else their defaults.
+/// The numbers of the words of `cluster`, or else their defaults.
 fn cluster_words(matches: &ArgMatches<'_>) -> ClusterWords {
     ClusterWords {
         coordinators: byte(matches, "coordinators", DEFAULTS.coordinators),
@@ -127,7 +127,7 @@ fn cluster_words(matches: &ArgMatches<'_>) -> ClusterWords {
     }
 }
 
-/// Which of the words do not go together.
+/// The message for words that do not go together.
 fn not_within(words: ClusterWords) -> &'static str {
     if words.coordinators % 2 == 0 {
         "the value of '--coordinators <N>' is even: it can be 1, 3, 5, 7 or 9"
@@ -150,17 +150,17 @@ fn bad_cluster(alloc: Global, message: &'static str) -> Result<Error, Error> {
     Ok(error)
 }
 
-/// How many of 256 a word says, or what it says if it is not there.
+/// How many of 256 a word says; `default` if it is not there.
 fn share(matches: &ArgMatches<'_>, name: &str, default: u16) -> u16 {
     matches.get_one::<u16>(name).unwrap_or(default)
 }
 
-/// The number of a word, below 256, or what it is if the word is not there.
+/// The number behind a word, below 256; `default` if the word is not there.
 fn byte(matches: &ArgMatches<'_>, name: &str, default: u8) -> u8 {
     matches.get_one::<u8>(name).unwrap_or(default)
 }
 
-/// The number of a word, or what it is if the word is not there.
+/// The number behind a word; `default` if the word is not there.
 fn number(matches: &ArgMatches<'_>, name: &str, default: u32) -> u32 {
     matches.get_one::<u32>(name).unwrap_or(default)
 }
@@ -184,7 +184,6 @@ fn with<'a>(above: Command<'a>, below: Result<Command<'a>, Error>) -> Result<Com
     Ok(above.subcommand(below)?)
 }
 
-/// The command `simulate`.
 fn simulate_command<'a>(alloc: Global) -> Command<'a> {
     Command::new(alloc, "simulate")
         .about(
@@ -193,14 +192,12 @@ fn simulate_command<'a>(alloc: Global) -> Command<'a> {
         .after_help(SIMULATE_HELP)
 }
 
-/// The command `audit`.
 fn audit_command<'a>(alloc: Global) -> Command<'a> {
     Command::new(alloc, "audit")
         .about("Tells whether the journals of nodes keep the rules, or the first fault")
         .after_help(AUDIT_HELP)
 }
 
-/// The command `end` with its words.
 fn end_command<'a>(alloc: Global) -> Result<Command<'a>, Error> {
     let command = Command::new(alloc, "end")
         .about("Tells through which version a recovery takes over, from the replies of locked logs")
@@ -231,7 +228,6 @@ fn of_shape<'a>(alloc: Global, name: &'a str, help: &'a str, value: &'a str) -> 
         .action(ArgAction::Set)
 }
 
-/// The command `cluster` with its words.
 fn cluster_command<'a>(alloc: Global) -> Result<Command<'a>, Error> {
     let cluster = Command::new(alloc, "cluster")
         .about("Runs a cluster in threads, and audits what its nodes did")
@@ -290,7 +286,7 @@ fn with_nodes<'a>(alloc: Global, cluster: Command<'a>) -> Result<Command<'a>, Er
     Ok(command)
 }
 
-/// With the words of what they do.
+/// Adds the words for the size of the work: batches, recoveries and turns.
 fn with_work<'a>(alloc: Global, cluster: Command<'a>) -> Result<Command<'a>, Error> {
     let command = cluster
         .arg(many(
@@ -318,7 +314,7 @@ fn with_work<'a>(alloc: Global, cluster: Command<'a>) -> Result<Command<'a>, Err
     Ok(command)
 }
 
-/// With the words of the store, of a storm and of what is printed.
+/// Adds the words for the store, the faults of a storm and the output.
 fn with_storm<'a>(alloc: Global, cluster: Command<'a>) -> Result<Command<'a>, Error> {
     let command = cluster
         .arg(store_word(alloc))?
@@ -342,19 +338,19 @@ fn store_word<'a>(alloc: Global) -> Arg<'a> {
     )
 }
 
-/// What `--storm` says.
+/// The help of `--storm`.
 const STORM: &str =
     "How many of 256 asks are lost or repeated, and how often nodes crash, 0 to 256";
 
-/// What `--late` says.
+/// The help of `--late`.
 const LATE: &str =
     "How many of 256 of the other asks are late, or what is told of them is, 0 to 256";
 
-/// What `--crash` says.
+/// The help of `--crash`.
 const CRASH: &str =
     "How many of 256 draws crash a node of any generation, or a node that asks, 0 to 256";
 
-/// What `--lose` says.
+/// The help of `--lose`.
 const LOSE: &str = "How many of 256 of the other draws lose a log for good, 0 to 256";
 
 /// A word that says how many of 256 draws are a fault.
@@ -404,7 +400,7 @@ fn counts_word<'a>(alloc: Global) -> Arg<'a> {
         .action(ArgAction::SetTrue)
 }
 
-/// A word with a number from `least` to `most`, and what it is if it is not there.
+/// A word with a number from `least` to `most`, and its default.
 fn few<'a>(
     alloc: Global,
     name: &'a str,
@@ -422,7 +418,7 @@ fn few<'a>(
         .action(ArgAction::Set)
 }
 
-/// A word with a number from `least` to 1,000,000, and what it is if it is not there.
+/// A word with a number from `least` to 1,000,000, and its default.
 fn many<'a>(alloc: Global, name: &'a str, help: &'a str, default: &'a str, least: u32) -> Arg<'a> {
     Arg::new(alloc, name)
         .long(name)

@@ -14,7 +14,7 @@ use fr_undo::ShardStore;
 use std::alloc::Global;
 use std::io::{Read, Write};
 
-/// What a store keeps its rows in.
+/// Where a store keeps its rows.
 #[derive(Clone, Copy, Debug, PartialEq, Eq)]
 pub enum StoreKind {
     /// A map in memory.
@@ -45,8 +45,8 @@ pub fn run_apply<R: Read, W: Write>(
     apply_counted(alloc, options, &mut calls, reader, writer)
 }
 
-/// As [`run_apply`], on a store in any state, which then holds what the operations left of it. What the store keeps
-/// its rows in changes no line. Each line is flushed once its operation is done.
+/// As [`run_apply`], on a store in any state, which then holds the result of the operations. Where the store keeps its
+/// rows changes no line. Each line is flushed once its operation is done.
 pub fn run_apply_on<S: ShardStore, R: Read, W: Write>(
     alloc: Global,
     store: &mut S,
@@ -102,8 +102,8 @@ pub fn apply_noted<N: Notes, R: Read, W: Write>(
     Ok(0)
 }
 
-/// As [`apply_noted`], on a store in any state, which then holds what the operations left of it. What the store keeps
-/// its rows in changes no line. Each line is flushed once its operation is done.
+/// As [`apply_noted`], on a store in any state, which then holds the result of the operations. Where the store keeps
+/// its rows changes no line. Each line is flushed once its operation is done.
 pub fn apply_noted_on<S: ShardStore, N: Notes, R: Read, W: Write>(
     alloc: Global,
     store: &mut S,

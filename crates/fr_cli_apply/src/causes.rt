@@ -30,7 +30,7 @@ impl<R: Read> NotedReader<R> {
         self.failure
     }
 
-    /// How what it read begins.
+    /// How its input begins.
     pub fn beginning(&self) -> Beginning {
         match (self.count, self.head) {
             (0, _) => Beginning::Empty,
@@ -39,7 +39,6 @@ impl<R: Read> NotedReader<R> {
         }
     }
 
-    /// Keeps the first bytes.
     fn note(&mut self, bytes: &[u8]) {
         for byte in bytes {
             let Some(place) = self.head.get_mut(self.count) else {
@@ -119,14 +118,14 @@ impl<W: Write> Write for NotedWriter<W> {
     }
 }
 
-/// Keeps an error, but an interruption.
+/// Keeps an error as the cause. An interruption is none, since the call is then made again.
 fn keep(failure: &mut Option<io::Error>, error: io::Error) {
     if error.kind() != ErrorKind::Interrupted {
         *failure = Some(error);
     }
 }
 
-/// What is known of why a program ends early.
+/// The known causes of a program's early end.
 #[derive(Clone, Copy, Debug)]
 pub struct Causes<'a> {
     /// How its input begins.
@@ -140,7 +139,7 @@ pub struct Causes<'a> {
 }
 
 impl Causes<'_> {
-    /// Says on standard error how a program ends, with what is known of the cause.
+    /// Says on standard error how a program ends, with the cause where it is known.
     pub(crate) fn say(&self, rt: &impl Eprint, fault: CliFault) {
         match fault {
             CliFault::BadScript => self.say_bad(rt, fault),
@@ -162,7 +161,7 @@ impl Causes<'_> {
     }
 }
 
-/// What is said of a byte order mark.
+/// The message for a byte order mark.
 const MARKED: &str = "found a byte order mark; save the script as UTF-8 without one";
 
 /// The same, of a reader or a writer that failed.

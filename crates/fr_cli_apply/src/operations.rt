@@ -70,7 +70,6 @@ enum Pace {
     Whole,
 }
 
-/// Writes the line of an operation.
 fn put_line<W: Write>(
     calls: &mut CallCounts,
     writer: &mut W,

@@ -14,17 +14,17 @@ const VERSION: &str = "0.2.0 (rattle logic dac8208d650f15bf)";
 /// The status of bad words.
 pub const BAD_WORDS: u8 = 2;
 
-/// What is said if a script's file is named.
+/// The message if a script's file is named.
 const FILE_TIP: &str = "  tip: a script is read from standard input, as in 'fdbrec apply < FILE'";
 
-/// How a program ends. The caller writes what belongs on standard error.
+/// How a program ends. The caller writes the message on standard error.
 #[derive(Debug, Drop)]
 pub enum Ending {
     /// The command was done, or help or the version was asked for and shown.
     Done(u8),
     /// The command ended early.
     Fault(CliFault),
-    /// It ended early by what this text says, with this status.
+    /// It ended early for the reason in this text, with this status.
     Named(&'static str, u8),
     /// The same, of a text that was made.
     Told(String, u8),
@@ -60,7 +60,7 @@ impl Ending {
         ExitCode::from(self.status())
     }
 
-    /// The same, with what is known of the cause.
+    /// The same, with the cause where it is known.
     pub fn say_why(&self, rt: &impl Eprint, causes: &Causes<'_>) -> ExitCode {
         match self {
             Ending::Fault(fault) => {

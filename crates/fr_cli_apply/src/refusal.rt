@@ -47,7 +47,6 @@ fn compared<W: fmt::Write>(
     write!(f, "version {asked} {relation} {other}, {whose}")
 }
 
-/// The limit that a batch breaks.
 fn limit_of(fault: BatchFault) -> &'static str {
     match fault {
         BatchFault::TooMany => "the batch has more than 1,000 mutations",

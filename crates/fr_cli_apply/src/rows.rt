@@ -70,7 +70,7 @@ fn put_row<W: Write>(
     put_bytes(calls, writer, line.as_slice())
 }
 
-/// Makes the line of a row in place of what `line` has.
+/// Makes the line of a row in place of the one in `line`.
 fn make_line(line: &mut Vec<u8>, key: &[u8], value: &[u8]) -> Result<(), AllocError>
     ensures { OnOk result (line.new.items ≡ row_line (key.now, value.now)) }
 {

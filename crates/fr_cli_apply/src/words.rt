@@ -3,7 +3,7 @@ use clap::error::Error;
 use clap::{Arg, ArgAction, ArgMatches, Command};
 use std::alloc::{AllocError, Global};
 
-/// What a store keeps its rows in.
+/// Where a store keeps its rows.
 #[derive(Clone, Copy, Debug, PartialEq, Eq)]
 pub enum StoreWord {
     /// A map in memory.
@@ -62,7 +62,7 @@ pub enum StoreWords {
     Mixed,
 }
 
-/// What is wrong with [`StoreWords::Mixed`].
+/// The message for [`StoreWords::Mixed`].
 pub const MIXED: &str = "'--db <FILE>' goes with '--store sql' alone";
 
 /// Reads which store the words of `apply` name.
@@ -96,7 +96,7 @@ pub fn read_store(matches: &ArgMatches<'_>) -> StoreWord {
     }
 }
 
-/// What is below its help.
+/// The text below its help.
 const APPLY_HELP: &str = "\
 The script is read from standard input. Keys, values and parameters are lower case hex, two
 digits a byte; versions are numbers below 2^62. It is an object {\"ops\":[..]} of operations:
@@ -156,7 +156,7 @@ Statuses: 0 done, refused operations included; 2 bad script, or bad words, or th
 store; 3 out of memory, or the store is in use by another process, has no room or failed; 4 input or
 output failed. A bad script prints no line.";
 
-/// What is below the help of `rows`.
+/// The text below the help of `rows`.
 const ROWS_HELP: &str = "\
 It reads no input, and writes nothing: the file and its folder may be read-only. It prints the state
 of the store that the file holds, and then its rows, as apply does:

@@ -21,7 +21,7 @@ use sqlite_disk::Files;
 use std::alloc::Global;
 use std::io::{Read, Write};
 
-/// What a fault of a store is to a command.
+/// The fault of a command whose store has this fault.
 fn fault_of(fault: StoreFault) -> DbFault
     ensures { cli_of result ≡ CliFault.Memory }
 {
@@ -51,9 +51,11 @@ fn opened<D: FaithfulDisk + Drop>(
 fn failure<D: FaithfulDisk + Drop>(store: SqlFileStore<D>) -> DbFault
     ensures { cli_of result ≡ CliFault.Memory }
 {
+    // A command answers `Memory` for every store that gave up, so the store is asked what it was.
     if store.is_failed() {
         return DbFault::Files(FileFault::Failed);
     }
+    // A full disk leaves the store open: only the count of refused writes tells it from want of memory.
     if store.into_files().tally().refused > 0 {
         DbFault::Files(FileFault::Full)
     } else {
@@ -68,6 +70,8 @@ fn ended<D: FaithfulDisk + Drop>(store: SqlFileStore<D>, fault: CliFault) -> DbF
     match fault {
         CliFault::Memory => failure(store),
         other => {
+            // What the operations before did is in the files already. That the close may fail too says nothing about
+            // them.
             let _ = store.close();
             DbFault::Command(other)
         }

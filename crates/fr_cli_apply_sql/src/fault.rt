@@ -6,7 +6,7 @@ ghost use Rattle.fr_cli_apply_sql.specs.declared.fault.DbFault.TheVariants.{Comm
 use fr_cli_json::CliFault;
 use std::alloc::AllocError;
 
-/// What is wrong with the files of a store.
+/// A fault of the files of a store.
 #[derive(Clone, Copy, Debug, PartialEq, Eq)]
 pub enum FileFault {
     /// They hold no database, or one with other tables.
@@ -52,7 +52,7 @@ pub enum FileFault {
 }
 
 impl FileFault {
-    /// What the user is told, before the name of the file.
+    /// The message to the user, before the name of the file.
     pub fn text(self) -> &'static str {
         match self {
             FileFault::NoStore => "no store: the file holds no database, or that of something else",
@@ -66,7 +66,7 @@ impl FileFault {
         }
     }
 
-    /// What the user is told of a file that was not opened.
+    /// The message to the user about a file that was not opened.
     fn unopened_text(self) -> &'static str {
         match self {
             FileFault::Missing => "store not opened: there is no such file",

@@ -18,11 +18,11 @@ use std::{fs, io};
 /// A file of the host that is read once, when it is opened.
 pub type HostFile = Mirror<FileFrom<Unknown>>;
 
-/// What each database begins with.
+/// The bytes with which each database begins.
 const HEAD: &[u8] = b"SQLite format 3\0";
 
-/// Whether the log of a database has anything. It lies where a link at the name leads. A name is refused with which that
-/// of a log or of a journal would be too long.
+/// Whether the log of a database has anything. It lies where a link at the name leads. A name is refused with which
+/// that of a log or of a journal would be too long.
 fn has_log(rt: &HostRuntime, name: &str) -> Result<bool, DbFault> {
     let (log, journal) = match fs::canonicalize(rt, name) {
         Ok(real) => (
@@ -34,6 +34,7 @@ fn has_log(rt: &HostRuntime, name: &str) -> Result<bool, DbFault> {
             format!(in rt.alloc(); "{name}-journal")?,
         ),
     };
+    // The longest name of the three is tried, so that no file is made of which a later one cannot be.
     match fs::symlink_metadata(rt, journal.as_str()) {
         Err(error) if error.kind() == ErrorKind::InvalidFilename => {
             return Err(DbFault::Files(FileFault::LongName));
@@ -69,11 +70,12 @@ enum Place {
     Alone,
 }
 
-/// Looks what is at a name, before anything is made beside it. What is no plain file is refused.
+/// Looks whether a plain file is at a name, before anything is made beside it, and refuses anything else.
 fn look(rt: &HostRuntime, name: &str, want: Want) -> Result<Place, DbFault> {
     if name.is_empty() {
         return Err(DbFault::Files(FileFault::NoName));
     }
+    // Looked at before the database: a log alone may hold commits, which a new database beside it would hide.
     let has_log = has_log(rt, name)?;
     match fs::metadata(rt, name) {
         Err(error) if error.kind() != ErrorKind::NotFound => Err(refused(rt, name, want, error)),
@@ -89,6 +91,8 @@ fn look(rt: &HostRuntime, name: &str, want: Want) -> Result<Place, DbFault> {
 
 /// Refuses a file that has no log, and begins as no database does.
 fn refuse_another(rt: &HostRuntime, name: &str, place: Place) -> Result<(), DbFault> {
+    // With a log the first page may be in that, so the first bytes of the file say nothing. An empty file becomes a
+    // database.
     if place != Place::Alone {
         return Ok(());
     }
@@ -116,7 +120,6 @@ fn host_files(rt: &HostRuntime, alloc: Global, name: &str) -> Result<Files<HostF
     }
 }
 
-/// The bytes of a file.
 fn bytes_of(alloc: Global, file: &mut HostFile) -> io::Result<Vec<u8>> {
     if !file.may_be_used() {
         return Err(io::Error::other("an earlier sync failed"));
@@ -129,7 +132,6 @@ fn bytes_of(alloc: Global, file: &mut HostFile) -> io::Result<Vec<u8>> {
     Ok(bytes)
 }
 
-/// The bytes of a file in memory.
 fn memory_bytes(alloc: Global, file: &mut MemoryFile) -> io::Result<Vec<u8>> {
     let len = file.len()?;
     let Ok(mut bytes) = vec![in alloc; 0; len] else {
@@ -139,7 +141,7 @@ fn memory_bytes(alloc: Global, file: &mut MemoryFile) -> io::Result<Vec<u8>> {
     Ok(bytes)
 }
 
-/// A copy of files, in memory: what is tried on it is not written into them.
+/// A copy of files, in memory: a trial on it writes nothing into them.
 fn copy_of(alloc: Global, files: &mut Files<HostFile>) -> io::Result<Files<MemoryFile>> {
     let log = bytes_of(alloc, &mut files.log)?;
     Ok(files_of(log, bytes_of(alloc, &mut files.db)?))
@@ -150,11 +152,12 @@ fn hold_another(alloc: Global, files: &mut Files<HostFile>) -> io::Result<bool> 
     if !files.may_be_used() || files.log.len()? > 0 || files.db.len()? == 0 {
         return Ok(false);
     }
+    // On a copy, because opening may write: a file that is somebody else's must stay byte for byte.
     let opened = SqlFileStore::open_or_create(alloc, copy_of(alloc, files)?);
     Ok(matches!(opened, Err(OpenFault::NoStore)))
 }
 
-/// Whether files hold a store already. What is tried is tried on a copy.
+/// Whether files hold a store already. It is tried on a copy.
 fn hold_store(alloc: Global, files: &mut Files<MemoryFile>) -> io::Result<bool> {
     let log = memory_bytes(alloc, &mut files.log)?;
     let db = memory_bytes(alloc, &mut files.db)?;

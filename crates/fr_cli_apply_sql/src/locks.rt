@@ -1,5 +1,6 @@
 //! Who is changing a file, by the list of locks that Linux keeps. A lock is looked for and not taken: one that is taken
-//! would keep others away from a file that is only shown.
+//! would keep others away from a file that is only shown. It could not be taken either, since SQLite locks ranges of
+//! bytes, and no handle does that.
 use std::alloc::{AllocError, Global};
 use std::fs;
 use std::fs::Metadata;

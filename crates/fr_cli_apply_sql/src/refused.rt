@@ -1,4 +1,5 @@
-//! Why the host refused a file, found by a second look where its error does not tell.
+//! Why the host refused a file, found by a second look where its error does not tell: the library that opens files has
+//! one error for a folder that may not be written, say, and for a file that may not be.
 use crate::fault::{DbFault, FileFault};
 use fr_cli_json::CliFault;
 use sqlite_std_file::OpenError;
@@ -7,14 +8,13 @@ use std::io::ErrorKind;
 use std::os::unix::fs::MetadataExt;
 use std::{fs, io};
 
-/// What a command wanted to do with a file.
+/// The access to a file that a command wanted.
 #[derive(Clone, Copy, PartialEq, Eq)]
 pub(crate) enum Want {
     Read,
     Write,
 }
 
-/// Why files were not opened.
 pub(crate) fn unopened(rt: &HostRuntime, name: &str, error: OpenError) -> DbFault {
     match error {
         OpenError::Busy => DbFault::Files(FileFault::Busy),
@@ -41,11 +41,12 @@ pub(crate) fn refused(rt: &HostRuntime, name: &str, want: Want, error: io::Error
     })
 }
 
-/// Of what there is no right.
+/// Whether the right to the file is missing, or the right to make files beside it in its folder.
 fn denied(rt: &HostRuntime, name: &str, want: Want) -> FileFault {
     if want == Want::Read {
         return FileFault::DeniedRead;
     }
+    // The file itself can be opened: then what was denied is to make the log beside it.
     match OpenOptions::new().read(true).write(true).open(rt, name) {
         Ok(_) => FileFault::DeniedFolder,
         Err(error) if error.kind() == ErrorKind::NotFound => FileFault::DeniedFolder,
@@ -53,7 +54,7 @@ fn denied(rt: &HostRuntime, name: &str, want: Want) -> FileFault {
     }
 }
 
-/// What a file is that is no plain file of one name.
+/// Whether a file has a second name, or is no plain file at all.
 fn not_plain(rt: &HostRuntime, name: &str) -> FileFault {
     match fs::metadata(rt, name) {
         Ok(found) if found.is_file() && found.nlink() != 1 => FileFault::SecondName,
@@ -61,7 +62,7 @@ fn not_plain(rt: &HostRuntime, name: &str) -> FileFault {
     }
 }
 
-/// What it is that a file was not read.
+/// The fault of a file that was not read.
 pub(crate) fn unread(error: io::Error) -> DbFault {
     match error.kind() {
         ErrorKind::OutOfMemory => DbFault::Command(CliFault::Memory),

@@ -9,7 +9,7 @@ use std::io::{ErrorKind, Read};
 use std::os::unix::fs::{FileExt, MetadataExt};
 use std::{fs, io};
 
-/// What each database begins with.
+/// The bytes with which each database begins.
 const HEAD: &[u8] = b"SQLite format 3\0";
 
 /// The database of a name and its log, in memory. Nothing is made, nothing is written and nothing is locked. A database
@@ -90,12 +90,14 @@ fn copied(
     db: &fs::File,
     log: &Option<fs::File>,
 ) -> io::Result<Option<Files<MemoryFile>>> {
+    // Without this a crash of the host could take back rows that were shown.
     settle(db)?;
     let frames = whole_of(alloc, log)?;
     if frames.is_empty() && !has_head(db)? {
         return Err(ErrorKind::InvalidData.into());
     }
     let pages = whole(alloc, db)?;
+    // Read twice, since nothing is locked: only equal bytes were there at one moment.
     let (later_frames, later_pages) = (whole_of(alloc, log)?, whole(alloc, db)?);
     if later_frames != frames || later_pages != pages {
         return Ok(None);
@@ -103,7 +105,7 @@ fn copied(
     Ok(Some(files_of(frames, pages)))
 }
 
-/// Has what is read of a file on the disk, where that can be asked for.
+/// Has the bytes of a file put on the disk before they are read, where that can be asked for.
 fn settle(file: &fs::File) -> io::Result<()> {
     match file.sync_all() {
         Err(error)

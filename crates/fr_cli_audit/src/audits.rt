@@ -22,7 +22,7 @@ use std::io::{Read, Write};
 pub struct Judged {
     /// 0 for a run, 1 for a fault.
     pub status: u8,
-    /// What the fault is, as a text of one line; None for a run, or if there was no memory for it.
+    /// The fault as a text of one line; None for a run, or if there was no memory for it.
     pub why: Option<String>,
 }
 
@@ -95,7 +95,7 @@ fn journals_in(
     }
 }
 
-/// Audits journals, and writes the line; gives the status, and what a fault is.
+/// Audits journals, and writes the line; gives the status, and the text of a fault.
 fn put_audit<W: Write>(
     alloc: Global,
     config: Config,
@@ -127,7 +127,7 @@ fn put_audit<W: Write>(
     }
 }
 
-/// What is found of some journals, if they are no run.
+/// The finding on some journals, if they are no run.
 fn finding_of(alloc: Global, config: Config, journals: &[Journal]) -> Option<Finding>
     ensures none { result ≡ None → IsOk (audited config journals.now) }
     ensures some { IfSome result (λ finding. finding ≢ Finding.Memory → found config journals.now ≡ Err finding) }

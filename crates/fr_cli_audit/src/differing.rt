@@ -82,7 +82,7 @@ fn unlike_values(alloc: Global, one: Value, other: Value) -> Result<(Value, Valu
     }
 }
 
-/// Two lists without what both begin with, and without what both end with.
+/// Two lists without their common beginning and end.
 fn unlike_items(
     alloc: Global,
     one: Vec<Value>,

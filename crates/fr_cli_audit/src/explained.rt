@@ -69,7 +69,7 @@ fn place_text(alloc: Global, at: usize, placed: &NodeEntry<'_>) -> Result<String
     format!(in alloc; "entry {at}, {node} at stamp {stamp}")
 }
 
-/// What a node did, without what the world answers.
+/// A node's act, without the world's answer to it.
 fn act_text(alloc: Global, act: &Act) -> Result<String, Memory> {
     let text = match act {
         Act::Asked { from, ask, .. } => {

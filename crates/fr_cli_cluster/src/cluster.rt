@@ -23,10 +23,10 @@ use std::thread::Threads;
 /// journals of all nodes. It writes `audit ok`, or the script of the audit, if they are a run, with status 0; else the
 /// line of the audit's fault, with status 1. Each node of the config has its journal among those of a run.
 ///
-/// Asks are lost, late or repeated, and nodes crash and are lost, as the storm of the words draws it. At strength 0, with
-/// no word of faults, nothing of it happens. At strength 0 workloads hand out numbered batches, else drawn ones. The recoverer of ballot i, counted from 1, begins
-/// at turn 100 i of its thread. If memory, a thread or a node is lacking the answer is `Memory`, and nothing is
-/// written; a write that failed is `Output`, and nothing else is answered.
+/// Asks are lost, late or repeated, and nodes crash and are lost, as the storm of the words draws it. At strength 0,
+/// with no word of faults, nothing of it happens, and workloads hand out numbered batches in place of drawn ones. The
+/// recoverer of ballot i, counted from 1, begins at turn 100 i of its thread. If memory, a thread or a node is lacking
+/// the answer is `Memory`, and nothing is written; a write that failed is `Output`, and nothing else is answered.
 pub fn run_cluster<R: Threads + Wait + Sync, W: Write>(
     rt: &R,
     alloc: Global,
@@ -42,8 +42,8 @@ pub fn run_cluster<R: Threads + Wait + Sync, W: Write>(
     run_cluster_on(rt, alloc, options, PlainRack, writer)
 }
 
-/// As [`run_cluster`], over the nodes and stores of a rack. A node or a store that could not be made, or that failed and
-/// could not be opened again, is `Memory`.
+/// As [`run_cluster`], over the nodes and stores of a rack. A node or a store that could not be made, or that failed
+/// and could not be opened again, is `Memory`.
 pub fn run_cluster_on<R: Threads + Wait + Sync, K: Rack + Sync + Drop, W: Write>(
     rt: &R,
     alloc: Global,
@@ -114,7 +114,7 @@ pub fn cluster_counted<
     Ok(status)
 }
 
-/// What came of a cluster: its report, or the fault of its audit. In a storm its workloads draw their batches.
+/// The outcome of a cluster: its report, or the fault of its audit. In a storm its workloads draw their batches.
 fn run<R: Threads + Wait + Sync, K: Rack + Sync + Drop, F: Faults + Sync>(
     rt: &R,
     alloc: Global,
@@ -136,7 +136,7 @@ fn run<R: Threads + Wait + Sync, K: Rack + Sync + Drop, F: Faults + Sync>(
     run_works(rt, alloc, words, shapes, rack, works, faults)
 }
 
-/// What came of a cluster with these workloads.
+/// The outcome of a cluster with these workloads.
 fn run_works<
     R: Threads + Wait + Sync,
     K: Rack + Sync + Drop,
@@ -182,7 +182,7 @@ fn audit_fault(fault: RunFault) -> Result<AuditFault, Memory>
     }
 }
 
-/// Writes what came of a cluster in which recoverers begin as the faults say, and gives the status.
+/// Writes the outcome of a cluster in which recoverers begin as the faults say, and gives the status.
 fn put_report<W: Write, F: Faults>(
     alloc: Global,
     words: &ClusterWords,

@@ -11,7 +11,7 @@ use fr_state::Generation;
 use std::io::Eprint;
 use std::sync::atomic::{AtomicU64, Ordering};
 
-/// What journals show, in numbers.
+/// The counts of journals.
 #[derive(Clone, Copy, Debug, PartialEq, Eq)]
 pub struct Counts {
     /// How often a node that answers asks was asked, and told.
@@ -39,7 +39,6 @@ pub struct Counts {
 }
 
 impl Counts {
-    /// Nothing is counted yet.
     fn new() -> Self {
         Counts {
             asked: 0,
@@ -56,7 +55,7 @@ impl Counts {
         }
     }
 
-    /// What the journals of a run show.
+    /// The counts of the journals of a run.
     pub fn over(journals: &[Journal]) -> Self {
         let mut counts = Counts::new();
         for journal in journals {
@@ -65,7 +64,6 @@ impl Counts {
         counts
     }
 
-    /// Counts what a journal shows.
     fn count(&mut self, journal: &Journal) {
         let mut is_open = false;
         for entry in journal.entries() {
@@ -155,7 +153,8 @@ fn after(gens: &[Generation], epoch: u64) -> Option<Generation> {
     gens.iter().copied().find(|g| g.epoch().get() > epoch)
 }
 
-/// A storage server as its journal shows it: its epoch, its version, and the generations that it knows, none at the start.
+/// A storage server as its journal shows it: its epoch, its version, and the generations that it knows, none at the
+/// start.
 #[derive(Drop)]
 struct Server<'a> {
     epoch: u64,
@@ -164,7 +163,6 @@ struct Server<'a> {
 }
 
 impl<'a> Server<'a> {
-    /// As it is at the start.
     fn new() -> Self {
         Server {
             epoch: 257,
@@ -201,7 +199,6 @@ impl<'a> Server<'a> {
         }
     }
 
-    /// Hears the generations of a mark.
     fn hear_marked(&mut self, gens: &'a [Generation], taken: Option<Version>) -> u64 {
         let Some(last) = gens.last() else {
             return 0;
@@ -237,7 +234,7 @@ pub struct CountsLine<'a, E, F> {
 }
 
 impl<'a, E: Eprint, F> CountsLine<'a, E, F> {
-    /// Nothing is counted yet, but for what the devices and files of a rack refused.
+    /// Nothing is counted yet, but for the refusals of a rack's devices and files.
     pub fn new(to: &'a E, faults: &'a F, refusals: &'a RefusedCalls) -> Self {
         CountsLine {
             to,
@@ -252,7 +249,6 @@ impl<'a, E: Eprint, F> CountsLine<'a, E, F> {
         }
     }
 
-    /// An ask was sent with this verdict.
     fn count(&self, verdict: Verdict) {
         let number = match verdict {
             Verdict::Pass => &self.passed,
@@ -279,7 +275,6 @@ impl<'a, E: Eprint, F> CountsLine<'a, E, F> {
         let _ = eprint!(self.to; "tells: {untold} lost, {heard_late} late; ");
     }
 
-    /// Says what the rack refused.
     fn show_refusals(&self) {
         let (devices, files) = (self.refusals.devices(), self.refusals.files());
         let _ = eprint!(self.to;
@@ -287,7 +282,6 @@ impl<'a, E: Eprint, F> CountsLine<'a, E, F> {
         );
     }
 
-    /// Says what the journals show.
     fn show_counts(&self, counts: &Counts) {
         let (asked, heard) = (counts.asked, counts.heard);
         let (crashed, lost) = (counts.crashed, counts.lost);

@@ -4,7 +4,7 @@ ghost use Rattle.fr_cli_cluster.specs.Options.{HasClients, HasNodes, HasStorm, H
 
 use std::marker::Model;
 
-/// What the words of `cluster` say: its numbers, and whether its journals are printed.
+/// The words of `cluster`: its numbers, and whether its journals are printed.
 #[derive(Clone, Copy, Debug, PartialEq, Eq)]
 pub struct ClusterWords {
     /// How many coordinators there are: 1, 3, 5, 7 or 9.
@@ -25,16 +25,16 @@ pub struct ClusterWords {
     pub turns: u32,
     /// How many of 256 asks and of 256 draws of a crash are a fault, 0 to 256.
     pub storm: u16,
-    /// How many of 256 asks that meet no other fault come late, or what is told of them does, 0 to 256.
+    /// How many of 256 asks that meet no other fault come late, or their replies do, 0 to 256.
     pub late: u16,
     /// How many of 256 further draws are a crash of a node of any generation, and of a node that asks, 0 to 256.
     pub crash: u16,
     /// How many of 256 of these draws that are no crash are the loss of a log, 0 to 256.
     pub lose: u16,
-    /// A device refuses one of N to 2 N writes and syncs, and a database in files one of as many writes: 16 to 65,535. At
-    /// 0 none is refused.
+    /// A device refuses one of N to 2 N writes and syncs, and a database in files one of as many writes: 16 to 65,535.
+    /// At 0 none is refused.
     pub refuse: u16,
-    /// From what faults, and the batches of a storm, are drawn.
+    /// The seed of the draws of faults, and of the batches of a storm.
     pub seed: u64,
     /// Whether the script of the audit is printed if it finds a run.
     pub journal: bool,
@@ -42,7 +42,7 @@ pub struct ClusterWords {
     pub counts: bool,
 }
 
-/// What is run if the words say nothing.
+/// The numbers that are run if the words give none.
 pub const DEFAULTS: ClusterWords = ClusterWords {
     coordinators: 3,
     logs: 4,
@@ -62,7 +62,7 @@ pub const DEFAULTS: ClusterWords = ClusterWords {
     counts: false,
 };
 
-/// Words whose numbers are those of a cluster. Contracts see them as the words.
+/// Words whose numbers are those of a cluster, so that `cluster` itself refuses none. Contracts see them as the words.
 #[derive(Clone, Copy, Debug, PartialEq, Eq)]
 pub struct ClusterOptions {
     words: ClusterWords,

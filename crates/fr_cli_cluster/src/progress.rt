@@ -58,7 +58,6 @@ impl<'a, E: Eprint, F> ProgressLine<'a, E, F> {
         }
     }
 
-    /// A storage server took a turn.
     fn count_turn(&self) {
         let before = self.turns.fetch_add(1, Ordering::SeqCst);
         if before % TURNS_A_LINE == 0 {

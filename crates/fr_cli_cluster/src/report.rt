@@ -16,7 +16,7 @@ use fr_script::audit::write_script;
 use std::alloc::Global;
 use std::io::Write;
 
-/// Writes what is printed of a run, and gives the status.
+/// Writes the output for a run, and gives the status.
 pub(crate) fn put_run<W: Write>(
     alloc: Global,
     is_script: bool,
@@ -38,7 +38,7 @@ pub(crate) fn put_run<W: Write>(
     Ok(0)
 }
 
-/// What is printed of a run: that it is one, or its script.
+/// The output for a run: that it is one, or its script.
 fn run_text(
     alloc: Global,
     is_script: bool,
@@ -54,7 +54,6 @@ fn run_text(
     }
 }
 
-/// The script of an audit, on a line.
 fn script_text(alloc: Global, config: &Config, journals: &[Journal]) -> Result<String, Memory>
     ensures { IfOk result (λ text. IsScriptLine (string_bytes text)) }
 {

@@ -10,7 +10,7 @@ use fr_runtime::Orders;
 use fr_runtime_storm::{DrawnOrders, Draws, Storm};
 use std::alloc::Global;
 
-/// What the nodes of a cluster start from.
+/// The config from which the nodes of a cluster start.
 pub(crate) fn config(alloc: Global, words: &ClusterWords) -> Result<Config, Memory>
     requires within { IsWithin words.now }
     ensures { IfOk result (λ config. config ≡ config_of words.now) }

@@ -29,7 +29,6 @@ pub(crate) fn read_script(alloc: Global, input: &[u8]) -> Result<Vec<Reply>, Unr
     }
 }
 
-/// Reads a list of replies.
 fn read_replies(alloc: Global, reader: &mut Reader<'_>) -> Result<Vec<Reply>, Unread>
     ensures value { IfOk result (λ replies. Gives replies_in 126 reader.old replies.items reader.new) }
     ensures shorter { OnOk result (length reader.new < length reader.old) }
@@ -42,7 +41,7 @@ fn read_replies(alloc: Global, reader: &mut Reader<'_>) -> Result<Vec<Reply>, Un
     Ok(replies)
 }
 
-/// Reads a reply: an array of exactly a log, what it holds durably and what it knows to be committed.
+/// Reads a reply: an array of exactly the number of a log, its `durable` and its `known`.
 fn read_reply(reader: &mut Reader<'_>) -> Result<Reply, Unread>
     ensures value { IfOk result (λ reply. Gives reply_of 125 reader.old reply reader.new) }
     ensures shorter { OnOk result (length reader.new < length reader.old) }

@@ -28,7 +28,7 @@ pub(crate) fn read_replies(alloc: Global, mut script: Value) -> Result<Vec<Reply
     Ok(replies)
 }
 
-/// Reads a reply: an array of exactly a log, what it holds durably and what it knows to be committed.
+/// Reads a reply: an array of exactly the number of a log, its `durable` and its `known`.
 fn read_reply(value: &Value) -> Option<Reply>
     ensures { result ≡ reply_of (view value.now) }
 {

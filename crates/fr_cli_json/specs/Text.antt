@@ -14,7 +14,7 @@ pub record HasRead {S : Type 0} (means : List ℕ → Option S) (old new : Optio
   pub whole : IsInput old new input
   pub meant : means input ≡ script
 
--- what the writer holds now and the rest are together what it held first and all of the text
+-- the writer's bytes now and then the rest are its first bytes and then all of the text
 abbrev pub Owes : Option (List ℕ) → Option (List ℕ) → List ℕ → List ℕ → Type 0
 Owes None now rest all = ⊤
 Owes (Some xs) None rest all = ⊥

@@ -11,7 +11,8 @@ use std::io::{ErrorKind, Read, Write};
 use std::marker::Model;
 
 /// How a command called its reader and its writer: how often it read, and how many reads and writes
-/// failed. Each number stays at 2^64 - 1 once it is there. Contracts see it as the three numbers.
+/// failed. Each number stays at 2^64 - 1 once it is there. Contracts see it as the three numbers. It is a value beside
+/// reader and writer, since a wrapper round them would hold a borrow whose end no clause can describe.
 #[derive(Clone, Copy, Debug, PartialEq, Eq)]
 pub struct CallCounts {
     reads: u64,

@@ -5,7 +5,7 @@ ghost use Rattle.fr_cli_json.specs.Hex.{digit_value};
 
 use std::alloc::{AllocError, Global};
 
-/// What each lower case digit stands for, and 255 for any other byte.
+/// The value of each lower case digit, and 255 for any other byte.
 const DIGITS: [u8; 256] = [
     255, 255, 255, 255, 255, 255, 255, 255, 255, 255, 255, 255, 255, 255, 255, 255, 255, 255, 255,
     255, 255, 255, 255, 255, 255, 255, 255, 255, 255, 255, 255, 255, 255, 255, 255, 255, 255, 255,
@@ -45,7 +45,7 @@ pub(crate) fn bytes_in(alloc: Global, text: &[u8]) -> Result<Option<Vec<u8>>, Al
     }
 }
 
-/// What a lower case digit stands for, and 255 for any other byte.
+/// The value of a lower case digit, and 255 for any other byte.
 fn digit_in(byte: u8) -> u8
     ensures { result ≡ digit_value byte }
 {

@@ -133,7 +133,6 @@ fn unsigned(digits: &[u8]) -> Option<u64>
     Numeral::scan(digits).to_u64()
 }
 
-/// Takes a text.
 fn take_string<'a>(reader: &mut Reader<'a>) -> Result<&'a str, Unread>
     ensures { IfOk result (λ text. reader.old ≡ string_token text.now ∷ reader.new) }
 {
@@ -143,7 +142,6 @@ fn take_string<'a>(reader: &mut Reader<'a>) -> Result<&'a str, Unread>
     }
 }
 
-/// Takes the text of a number.
 fn take_number<'a>(reader: &mut Reader<'a>) -> Result<&'a str, Unread>
     ensures { IfOk result (λ text. reader.old ≡ number_token text.now ∷ reader.new) }
 {

@@ -212,8 +212,8 @@ fn adopt_word<'a>(alloc: Global) -> Arg<'a> {
         .action(ArgAction::SetTrue)
 }
 
-/// How far ahead numbers may be. No run takes 2^32 rounds, stamps or commits at one step, and it leaves most of the 2^40
-/// rounds and stamps that there are.
+/// How far ahead numbers may be. No run takes 2^32 rounds, stamps or commits at one step, and it leaves most of the
+/// 2^40 rounds and stamps that there are.
 fn ahead_word<'a>(alloc: Global) -> Arg<'a> {
     number(
         alloc,
@@ -230,7 +230,7 @@ fn start_word<'a>(alloc: Global) -> Arg<'a> {
         .action(ArgAction::SetTrue)
 }
 
-/// What is below its help.
+/// The text below its help.
 const NODE_HELP: &str = "\
 Lines of JSON are read from standard input, one object a line, and each is answered by one line:
 

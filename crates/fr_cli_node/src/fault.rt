@@ -26,14 +26,14 @@ pub enum NodeEnd {
     There,
     /// A file is another node's, or another cluster's.
     Stranger,
-    /// Its files have too little room for what they are to begin with.
+    /// Its files have too little room for their first group.
     NoRoom,
     /// The node cannot go on.
     Crashed(Crash),
 }
 
 impl NodeEnd {
-    /// What the user is told.
+    /// The message to the user.
     pub fn text(self) -> &'static str {
         match self {
             NodeEnd::Command(CliFault::BadScript) => "bad script",

@@ -9,7 +9,7 @@ use std::io::{ErrorKind, Read};
 /// The most bytes that one read gives.
 const READ_SIZE: usize = 32_768;
 
-/// What a reader has next.
+/// The next thing that a reader has.
 #[derive(Debug, Drop)]
 pub(crate) enum Found {
     /// A line, without its end.
@@ -35,6 +35,8 @@ impl Part {
     {
         let mut part = self;
         let room = most.saturating_sub(part.bytes.len());
+        // What is left of a line that is too long is read and dropped, so that it costs no memory and the next line is
+        // found.
         if part.is_long || bytes.len() > room {
             part.is_long = true;
             part.bytes.clear();
@@ -44,7 +46,7 @@ impl Part {
         Ok(part)
     }
 
-    /// The line, at its end.
+    /// The line, once its end was read.
     fn found(self) -> Found {
         if self.is_long {
             Found::TooLong
@@ -53,7 +55,6 @@ impl Part {
         }
     }
 
-    /// Whether there is nothing of it.
     fn is_nothing(&self) -> bool {
         self.bytes.is_empty() && !self.is_long
     }
@@ -68,7 +69,6 @@ pub(crate) struct Lines {
 }
 
 impl Lines {
-    /// Nothing is read yet.
     pub(crate) fn new(alloc: Global) -> Self {
         Lines {
             chunk: Vec::new(alloc),
@@ -106,6 +106,7 @@ impl Lines {
                 }
                 None => part = part.with(rest, most)?,
             }
+            // The bytes behind the last end of a line are a line too, as a file without a final newline has it.
             if !self.fill(reader)? {
                 return Ok(if part.is_nothing() {
                     Found::End
@@ -117,7 +118,7 @@ impl Lines {
         Err(CliFault::Input)
     }
 
-    /// Reads what comes next; false if there is no more.
+    /// Reads the next bytes; false if there are no more.
     fn fill<R: Read>(&mut self, reader: &mut R) -> Result<bool, CliFault>
         ensures fault { IfErr result (λ fault. (fault ≡ CliFault.Input) ⊎ (fault ≡ CliFault.Memory)) }
     {

@@ -80,7 +80,6 @@ pub fn run_node<R: Read, W: Write>(
     }
 }
 
-/// The config of a file.
 pub(crate) fn config_in(host: &HostRuntime, alloc: Global, name: &str) -> Result<Config, NodeEnd> {
     let text = match fs::read(host, name) {
         Ok(text) => text,

@@ -49,7 +49,6 @@ fn owner_of(alloc: Global, home: &Home, node: &str, shape: &[u8]) -> Result<Byte
     Ok(Bytes::from_vec(owner))
 }
 
-/// The files of a cell.
 pub(crate) fn cell_files(
     host: &HostRuntime,
     alloc: Global,
@@ -73,7 +72,6 @@ pub(crate) fn cell_files(
     files_of(host, alloc, home, &names, owner, old)
 }
 
-/// The files of a log.
 pub(crate) fn log_files(
     host: &HostRuntime,
     alloc: Global,
@@ -187,7 +185,6 @@ fn put_first<D: Device>(
     file.append_group(alloc, group)
 }
 
-/// Why files were not made.
 fn unmade(fault: RecordFault) -> NodeEnd {
     match fault {
         RecordFault::Full => NodeEnd::NoRoom,
@@ -227,7 +224,6 @@ fn hold_nothing<D: Device>(
     }
 }
 
-/// Why a pair was not opened.
 fn unopened_pair(fault: OpenFault) -> NodeEnd {
     match fault {
         OpenFault::Unmade => NodeEnd::Unmade,
@@ -250,7 +246,6 @@ fn are_there(host: &HostRuntime, names: &Names) -> Result<(), NodeEnd> {
     }
 }
 
-/// Whether there is a file of a name.
 pub(crate) fn is_there(host: &HostRuntime, name: &String) -> Result<bool, NodeEnd> {
     match fs::exists(host, name.as_str()) {
         Ok(is_there) => Ok(is_there),
@@ -322,7 +317,6 @@ fn device_at(
     }
 }
 
-/// Why a file was not opened.
 fn unopened(fault: HostFault) -> NodeEnd {
     match fault {
         HostFault::Busy => NodeEnd::Busy,

@@ -23,10 +23,10 @@ use std::io::{Read, Write};
 /// The most bytes that a line may have: a batch at its limits fits.
 pub const MAX_LINE: usize = 268_435_456;
 
-/// Serves lines to the end of the input, each of at most so many bytes: answers each in its turn, and flushes the answer
-/// before it waits for more. Turns that were read together, and may stand in one group, are taken as one, and answered by
-/// one write. A line that is not done is answered with the reason; one with a number that is further ahead than `ahead`
-/// allows is refused. A node that cannot go on says so in its answer, and serves no more.
+/// Serves lines to the end of the input, each of at most so many bytes: answers each in its turn, and flushes the
+/// answer before it waits for more. Turns that were read together, and may stand in one group, are taken as one, and
+/// answered by one write. A line that is not done is answered with the reason; one with a number that is further ahead
+/// than `ahead` allows is refused. A node that cannot go on says so in its answer, and serves no more.
 pub fn serve<T: Acting, R: Read, W: Write>(
     alloc: Global,
     most: usize,
@@ -104,6 +104,7 @@ fn take_line<T: Acting, W: Write>(
     match asked_in(order) {
         Ok(asked) => take_turn(alloc, calls, node, ahead, envelope, asked, waiting, writer),
         Err(order) => {
+            // In the order in which they came: a read behind pushes has to see them.
             answer_waiting(alloc, calls, node, ahead, waiting, writer)?;
             answer_line(alloc, calls, node, ahead, &envelope, order, writer)
         }
@@ -129,9 +130,9 @@ fn asked_of(request: NodeRequest) -> Result<Asked, NodeRequest> {
     }
 }
 
-/// Puts a turn, above a stamp, behind those that wait, if it may join them. Otherwise these are answered first. It waits
-/// only if its numbers are not too far ahead: then they are not either once those before it are taken, since a node's
-/// reach only grows; and a group is taken without looking again.
+/// Puts a turn, above a stamp, behind those that wait, if it may join them. Otherwise these are answered first. It
+/// waits only if its numbers are not too far ahead: then they are not either once those before it are taken, since a
+/// node's reach only grows; and a group is taken without looking again.
 fn take_turn<T: Acting, W: Write>(
     alloc: Global,
     calls: &mut CallCounts,
@@ -149,6 +150,7 @@ fn take_turn<T: Acting, W: Write>(
     ensures done { OnOk result (calls.new ≡ calls.old) }
 {
     let Asked { at, turn, is_whole } = asked;
+    // Asked here, since a group is never refused: a turn that is too far ahead has to be answered alone.
     let is_near = !is_ahead(ahead, &node.reach(), at, &turn);
     if !is_near || !waiting.may_take(node, &turn) {
         answer_waiting(alloc, calls, node, ahead, waiting, writer)?;
@@ -164,7 +166,6 @@ fn take_turn<T: Acting, W: Write>(
     }
 }
 
-/// Answers a line.
 fn answer_line<T: Acting, W: Write>(
     alloc: Global,
     calls: &mut CallCounts,
@@ -184,6 +185,7 @@ fn answer_line<T: Acting, W: Write>(
     let crash = crash_of(&done);
     put_answer(alloc, calls, node.place(), envelope, done, writer)?;
     match crash {
+        // Only behind the answer, so that the router has the reason and not just a pipe that closed.
         Some(crash) => Err(NodeEnd::Crashed(crash)),
         None => Ok(()),
     }
@@ -206,6 +208,7 @@ fn answer_waiting<T: Acting, W: Write>(
     ensures done { OnOk result (calls.new ≡ calls.old) }
 {
     let (senders, turns) = waiting.take_all(alloc);
+    // A single one is no group, and may be any turn.
     if turns.len() > 1 {
         match node.act_all(alloc, turns.as_slice()) {
             Ok(Some(taken)) => {
@@ -213,6 +216,8 @@ fn answer_waiting<T: Acting, W: Write>(
             }
             Ok(None) => {}
             Err(NodeTurnFault::Refused(_)) => unreachable!(),
+            // None of them was answered, so the first one learns that the process ends. A router gives all of them
+            // again.
             Err(NodeTurnFault::Crashed(why)) => {
                 if let Some(first) = senders.as_slice().first() {
                     let done = Err(LineFault::Turn(NodeTurnFault::Crashed(why)));
@@ -242,6 +247,7 @@ fn answer_all<W: Write>(
     ensures fault { IfErr result (IsPutFault calls.new) }
     ensures done { OnOk result (calls.new ≡ calls.old) }
 {
+    // The turns are taken and on disk by now. Without an answer they are given again, and told the same again.
     let Ok(text) = texts_of(alloc, &place, senders, taken) else {
         return Err(NodeEnd::Crashed(Crash::Memory));
     };
@@ -281,14 +287,13 @@ fn text_of_one(
     write_reply(alloc, *place, &envelope, &reply)
 }
 
-/// Why a reader gives no line.
 fn unread(fault: CliFault) -> NodeEnd
     ensures value { result ≡ NodeEnd.Command fault }
 {
     NodeEnd::Command(fault)
 }
 
-/// Has a node do what a line asks. A bad line asks nothing.
+/// Has a node do the request of a line. A bad line has none.
 fn do_line<T: Acting>(
     alloc: Global,
     node: &mut T,
@@ -321,6 +326,7 @@ fn crash_of(done: &Result<NodeReply, LineFault>) -> Option<Crash>
 {
     match done {
         Ok(_) => None,
+        // A line that could not be read for want of memory is no bad line, and it may not be skipped.
         Err(LineFault::Bad(BadLine::Memory)) => Some(Crash::Memory),
         Err(LineFault::Bad(_)) => None,
         Err(LineFault::Turn(NodeTurnFault::Crashed(why))) => Some(*why),
@@ -368,6 +374,7 @@ fn put_text<W: Write>(calls: &mut CallCounts, writer: &mut W, text: &[u8]) -> Re
         Ok(()) => {}
         Err(fault) => return Err(NodeEnd::Command(fault)),
     }
+    // Otherwise the router could wait for an answer that waits in a buffer for the next one.
     match calls.flush(writer) {
         Ok(()) => Ok(()),
         Err(fault) => Err(NodeEnd::Command(fault)),

@@ -22,8 +22,12 @@ use fr_node::{Grouping, Groups};
 use fr_segment::GroupFile;
 use std::alloc::Global;
 
-/// Pushes and reads of a log over its file are one group: one write of the file, with two syncs. Other asks stand apart:
-/// given again behind later ones, after a kill, they could be told something else.
+/// Pushes and reads of a log over its file are one group: one write of the file, with two syncs.
+///
+/// After a kill a router gives a line that has no answer again, behind others that it gave together with it. A push is
+/// held by then, and a read changes nothing, so each is told the same again. Other asks stand apart: a lock or a pop
+/// that comes again behind later pushes could be told something else. So do a push that does not follow the one before
+/// it, since it may be refused for a gap that the next line closes, and one behind a read, which would see it.
 pub(crate) struct Together;
 
 /// Whether an ask only reads.
@@ -83,7 +87,6 @@ fn grouped(ask: &LogAsk) -> Result<Option<LogAsk>, Memory>
     }
 }
 
-/// Whether a push is held.
 fn is_held(tell: &LogTell) -> bool
     ensures { result ≡ is_held tell.now }
 {

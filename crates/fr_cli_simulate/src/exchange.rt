@@ -6,14 +6,13 @@ use fr_run::{Answer, Event, NotEnabled};
 use fr_world::World;
 use std::alloc::Global;
 
-/// What came of an ask: the number of a batch, if one was told, and what the hear says of a proxy's batch.
+/// The outcome of an ask: the number of a batch, if the reply has one, and a proxy's word on its batch.
 #[derive(Clone, Copy)]
 pub(crate) struct Exchange {
     pub(crate) number: Option<Version>,
     pub(crate) outcome: Outcome,
 }
 
-/// Makes the turn that an event is.
 fn make(alloc: Global, world: &mut World, event: Event) -> Result<Answer, NotEnabled> {
     world.step(alloc, event)
 }
@@ -31,7 +30,7 @@ pub(crate) fn why_not(
     }
 }
 
-/// Delivers an ask, and gives what is told.
+/// Delivers an ask, and gives the reply.
 pub(crate) fn deliver(
     alloc: Global,
     world: &mut World,
@@ -52,8 +51,8 @@ pub(crate) fn deliver(
     }
 }
 
-/// Delivers an ask of a proxy or a recoverer, and has its sender hear at once what it is told. None if it does not come
-/// there, since the node is lost, say: such an ask is passed over.
+/// Delivers an ask of a proxy or a recoverer, and has its sender hear the reply at once. None if it does not arrive,
+/// since the node is lost, say: such an ask is passed over.
 pub(crate) fn ask_and_hear(
     alloc: Global,
     world: &mut World,
@@ -107,7 +106,7 @@ fn number_in(tell: &Tell) -> Option<Version> {
     }
 }
 
-/// What a proxy says of its batch.
+/// A proxy's word on its batch.
 fn outcome_in(answer: &Answer) -> Outcome {
     match answer {
         Answer::Heard(outcome) => *outcome,

@@ -4,19 +4,18 @@ use fr_log::LogRefusal;
 use fr_run::NotEnabled;
 use fr_storage::StorageFault;
 
-/// Why a storage server did not get what it asked a log for.
+/// Why a storage server's ask brought nothing.
 #[derive(Clone, Copy)]
 pub(crate) enum Refusal {
     /// The event cannot happen.
     Event(NotEnabled),
     /// The log refused it.
     Log(LogRefusal),
-    /// The server refused what the log told.
+    /// The server refused the log's reply.
     Storage(StorageFault),
 }
 
 impl Refusal {
-    /// Its name.
     pub(crate) fn name(&self) -> &'static str {
         match self {
             Refusal::Event(why) => event_name(*why),
@@ -26,7 +25,6 @@ impl Refusal {
     }
 }
 
-/// The name of why an event cannot happen.
 pub(crate) fn event_name(why: NotEnabled) -> &'static str {
     match why {
         NotEnabled::NoSuchNode => "NoSuchNode",
@@ -39,7 +37,7 @@ pub(crate) fn event_name(why: NotEnabled) -> &'static str {
     }
 }
 
-/// The name of why a storage server did not take what it heard.
+/// The name of the reason why a storage server refused a reply.
 fn storage_name(fault: StorageFault) -> &'static str {
     match fault {
         StorageFault::Older => "Older",

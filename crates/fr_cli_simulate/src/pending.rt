@@ -9,7 +9,7 @@ use fr_register::CellAsk;
 use fr_world::World;
 use std::alloc::Global;
 
-/// What an ask is for.
+/// The purpose of an ask.
 #[derive(Clone, Copy)]
 pub(crate) enum Purpose {
     /// A read of a cell.
@@ -28,7 +28,6 @@ pub(crate) enum Purpose {
 pub(crate) const LOGS: [u8; 16] = [0, 1, 2, 3, 4, 5, 6, 7, 8, 9, 10, 11, 12, 13, 14, 15];
 
 impl Purpose {
-    /// Whether an ask is for this.
     fn is_of(self, ask: &Ask) -> bool {
         match (self, ask) {
             (Purpose::Read, Ask::Cell(CellAsk::Read { .. })) => true,
@@ -67,8 +66,8 @@ pub(crate) fn pending_of(
     }
 }
 
-/// Whether a recoverer has asks for this pending, if it has any: each phase has those of its own, and what they are
-/// changes with what is told of them alone. It takes no memory, while a list of them may take much.
+/// Whether a recoverer's pending asks, if it has any, are for this purpose: each phase sends asks of its own kind. It
+/// takes no memory, while a list of them may take much.
 pub(crate) fn is_wanted(world: &World, ballot: Ballot, purpose: Purpose) -> bool {
     match world.recoverer(ballot) {
         Some(recoverer) => match (recoverer.phase(), purpose) {

@@ -33,7 +33,6 @@ pub(crate) fn line_of(
     beside(world, line)
 }
 
-/// A line beside the world.
 fn beside(world: World, line: Result<String, Memory>) -> Result<(World, String), Memory> {
     match line {
         Ok(line) => Ok((world, line)),

@@ -24,8 +24,8 @@ pub trait Compact: Recorded {
         ensures records { IfOk result (λ group. records_of group.items ≡ spelled self.now) }
         ensures short { IfOk result (λ group. All (λ v. length v.items < 2 ^ 32) group.items) };
 
-    /// How many bytes of the file the records of an ask leave free behind them. What makes the state longer should leave
-    /// some, and what makes it shorter none: so a file that refuses the one has room for the other.
+    /// How many bytes of the file the records of an ask leave free behind them. An ask that makes the state longer
+    /// should leave some, and one that makes it shorter none: so a file that refuses the one has room for the other.
     fn spare(ask: &Self::Ask) -> usize
         ensures { result ≡ spare ask.now };
 

@@ -78,8 +78,8 @@ where
     }
 
     /// The node whose file this is. The machine that is handed over was never asked; it takes the changes of the file.
-    /// `Broken` if no asks of such a machine write its records. A refusal drops the file. Its records stay: calls led it to
-    /// where a crash leaves them, and no others (`gone`).
+    /// `Broken` if no asks of such a machine write its records. A refusal drops the file. Its records stay: calls led
+    /// it to where a crash leaves them, and no others (`gone`).
     pub fn read(alloc: Global, file: F, machine: M) -> Result<Self, NodeFault>
         requires fresh { M.fresh machine ≡ machine }
         requires sound { M.IsSound machine }
@@ -114,12 +114,12 @@ where
         })
     }
 
-    /// Answers asks in order as the plain machine does, with all their records in one group: after a crash all of it
-    /// is there, or nothing. As many bytes stay free behind it as any of the asks leaves free (`Compact::spare`). If the
-    /// file lacks room it lets go first, and `Full` says that there would be none behind the records of the state either:
-    /// how long a list may be depends on these. If no ask changes anything, as in an empty list, the file stays as it
-    /// is. Memory holds the records of all asks at once, and a copy of each ask; while the file lets go, the records of
-    /// the state.
+    /// Answers asks in order as the plain machine does, with all their records in one group: after a crash all of it is
+    /// there, or nothing. As many bytes stay free behind it as any of the asks leaves free (`Compact::spare`). If the
+    /// file lacks room it lets go first, and `Full` says that there would be none behind the records of the state
+    /// either: how long a list may be depends on these. If no ask changes anything, as in an empty list, the file stays
+    /// as it is. Memory holds the records of all asks at once, and a copy of each ask; while the file lets go, the
+    /// records of the state.
     pub fn serve_all(&mut self, alloc: Global, asks: Vec<M::Ask>) -> Result<Vec<M::Tell>, NodeFault>
         ensures told { IfOk result (λ tells. tells.items ≡ told_all M.after M.told self.old.machine asks.items) }
         ensures after { OnOk result (self.new.machine ≡ after_all M.after self.old.machine asks.items) }
@@ -144,12 +144,16 @@ where
         ensures kept { OnOk result (F.Throughout (LeadsTo M.replay (M.fresh self.new.machine) (λ x. x
             ≡ self.new.machine)) self.new.file self.new.file) }
     {
+        // Before anything is taken: after a fault the file may have either of two lists, and only `reopen` finds out
+        // which (invariant 3).
         if self.file.is_failed() {
             return Err(NodeFault::Failed);
         }
+        // Answered here, since below even an empty list could meet `Memory` (invariant 6).
         if asks.is_empty() {
             return Ok(Vec::new(alloc));
         }
+        // The law for the case that the file lets go: other records then lead to the same state (invariant 1).
         M::leads_back();
         let spare = spare_of::<M>(asks.as_slice());
         match serve_group(
@@ -166,9 +170,13 @@ where
                     is_in_flight,
                 },
             ) => {
+                // Kept, because a crash may have left their records: `reopen` has to know to which state those lead
+                // (invariant 3).
                 self.held = Some(Held { asks, is_in_flight });
                 Err(NodeFault::Device)
             }
+            // Nothing is in doubt: the machine went back, and the records lead to it, even if the file let go
+            // (invariant 1).
             Err(unserved) => Err(unserved.fault),
         }
     }
@@ -199,11 +207,12 @@ where
         if self.file.is_failed() {
             return Err(NodeFault::Failed);
         }
+        // Whatever part of the room the state takes: the rule of half is for asks, which would let go again and again
+        // (invariant 4).
         M::leads_back();
         let_go(&mut self.file, &self.machine, alloc)
     }
 
-    /// A list of one ask.
     fn only(&self, alloc: Global, ask: M::Ask) -> Result<Vec<M::Ask>, NodeFault>
         ensures ok { IfOk result (λ asks. asks.items ≡ ask ∷ []) }
         ensures failed { (result ≡ Err NodeFault.Failed) ↔ IsTrue (F.is_failed self.now.file) }
@@ -212,6 +221,7 @@ where
             → F.Throughout (LeadsTo M.replay (M.fresh self.now.machine) (λ x. (x ≡ self.now.machine)
             ⊎ (x ≡ M.after self.now.machine ask))) self.now.file self.now.file }
     {
+        // Before the list takes memory, so that a failed node always says `Failed`.
         if self.file.is_failed() {
             return Err(NodeFault::Failed);
         }
@@ -279,6 +289,7 @@ where
         ensures kept { OnOk result (F.Throughout (LeadsTo M.replay (M.fresh self.new.machine) (λ x. x
             ≡ self.new.machine)) self.new.file self.new.file) }
     {
+        // A list of one, so that there is one order of calls: machine, file, reply (invariant 7).
         let asks = match self.only(alloc, ask) {
             Ok(asks) => asks,
             Err(fault) => return Err(fault),
@@ -293,11 +304,13 @@ where
     }
 
     fn reopen(&mut self, alloc: Global) -> Result<Reopened, NodeFault> {
+        // No asks are in doubt, so whatever the file is found with leads to the state (invariant 3).
         let Some(held) = &self.held else {
             return reopen_idle(&mut self.file, alloc);
         };
         match reopen_held(&mut self.file, &mut self.machine, alloc, held) {
             Ok(reopened) => {
+                // Only here: after a refusal the asks are still in doubt, and the next try needs them.
                 self.held = None;
                 Ok(reopened)
             }

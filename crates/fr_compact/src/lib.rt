@@ -15,9 +15,15 @@
 //!    records and then the asks' (`flying`). Otherwise they lead to the state too, and no ask was written (`resting`).
 //!    So `reopen` answers `After` only if asks were in flight and the file is found longer.
 //! 4. For an ask that is to leave bytes free, the file lets go only if what stays takes half of the next room at most.
-//!    Otherwise a state that nearly fills the file would be written anew at each of the few asks for which there is room.
+//!    Otherwise a state that nearly fills the file would be written anew at each of the few asks for which there is
+//!    room.
 //! 5. For an ask that leaves none it lets go whatever stays: such an ask may make the state shorter, and if it were
 //!    refused nothing else could. The bytes that the others left free hold many of these before the file lets go again.
+//! 6. What can run out of memory is done before the file is written or opened again, and the machine goes back if it
+//!    fails. Otherwise the file could have records of asks that were refused.
+//! 7. The records of an ask lead on from the state that it meets (`written_all`). So the machine takes each ask before
+//!    the next one's records are made, and all of them before the file does. No ask is told before its group is in the
+//!    file.
 #![tactic(auto)]
 
 mod cell;

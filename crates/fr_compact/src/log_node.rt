@@ -23,10 +23,10 @@ use fr_tags::MAX_LOGS;
 use std::alloc::Global;
 use std::marker::Model;
 
-/// A log whose seed, pushes and lock outlast every crash, over a file that lets go of the batches that pops cover: an ask
-/// is answered only once its records are in the file, and one that changes nothing leaves it. A push costs its own length
-/// and the log's whenever the file is full, reading the log back the length of its file. Contracts see the file and the
-/// log.
+/// A log whose seed, pushes and lock outlast every crash, over a file that lets go of the batches that pops cover: an
+/// ask is answered only once its records are in the file, and one that changes nothing leaves it. A push costs its own
+/// length and the log's whenever the file is full, reading the log back the length of its file. Contracts see the file
+/// and the log.
 ///
 /// A log keeps the numbers of each push for good, which take 30 bytes of the file. Once these take half of it, the file
 /// refuses pushes until the epoch ends.
@@ -45,7 +45,8 @@ impl<F: GroupFile> Model for CompactLog<F> {
 }
 
 impl<F: GroupFile> CompactLog<F> {
-    /// A log that was never asked, of a generation of `m` logs on `k` of which each tag is, over a file with no records.
+    /// A log that was never asked, of a generation of `m` logs on `k` of which each tag is, over a file with no
+    /// records.
     pub fn begin(alloc: Global, file: F, id: LogId, m: u8, k: u8) -> Self
         requires some { 1 ≤ k }
         requires fits { k ≤ m }
@@ -64,8 +65,8 @@ impl<F: GroupFile> CompactLog<F> {
         }
     }
 
-    /// The log whose file this is. `Broken` if no run of a log of this id, `m` and `k` writes its records. A refusal drops
-    /// the file. Its records stay: calls led it to where a crash leaves them, and no others (`gone`).
+    /// The log whose file this is. `Broken` if no run of a log of this id, `m` and `k` writes its records. A refusal
+    /// drops the file. Its records stay: calls led it to where a crash leaves them, and no others (`gone`).
     pub fn open(alloc: Global, file: F, id: LogId, m: u8, k: u8) -> Result<Self, NodeFault>
         requires some { 1 ≤ k }
         requires fits { k ≤ m }
@@ -99,9 +100,9 @@ impl<F: GroupFile> CompactLog<F> {
 
     /// Answers asks in order as the log does, with all their records in one group: after a crash all of it is there, or
     /// nothing. Behind a push 4,096 bytes stay free, which other asks may use. If the file lacks room it lets go first,
-    /// and then has the records of the log's state alone. If no ask changes anything, as in an empty list, the file stays
-    /// as it is. Memory holds the records of all asks at once, and a copy of each ask; while the file lets go, the records
-    /// of the log.
+    /// and then has the records of the log's state alone. If no ask changes anything, as in an empty list, the file
+    /// stays as it is. Memory holds the records of all asks at once, and a copy of each ask; while the file lets go,
+    /// the records of the log.
     pub fn serve_all(&mut self, alloc: Global, asks: Vec<LogAsk>) -> Result<Vec<LogTell>, NodeFault>
         ensures told { IfOk result (λ tells. tells.items ≡ told_all after_ask answer_of self.old.machine asks.items) }
         ensures after { OnOk result (self.new.machine ≡ after_all self.old.machine asks.items) }

@@ -1,4 +1,4 @@
--- What a recoverer finds in what it read, and what it makes of the replies once they cover.
+-- The state that a recoverer finds in its reads, and its plan from the replies once they cover.
 use Rattle.std.specs.Prelude.{ℕ, ◌+◌, ◌^◌, nat_lt, nat_le, List, [], map, Option, None, Some, Result, Ok, Err, if◌then◌else◌}
 use Rattle.fr_base.specs.Shape.{ShapeContent}
 use Rattle.fr_base.specs.declared.place.NodeId.{NodeId}

@@ -120,7 +120,7 @@ with_plan r p end (Err fault.NotLater) = lost r why.NotLater
 with_plan r p end (Err fault.TooMany) = lost r why.TooMany
 with_plan r p end (Err fault.Memory) = r
 
--- what the recoverer goes on from: its parent, without the generations that what was shown lets drop
+-- the recoverer's parent, without the generations that may be dropped by the pops that replies showed
 abbrev pub left_of : RecState → Parent → CoordinatedState
 left_of r p = left_by p.state r.shown (range_with_len 0 (length r.begins))
 

@@ -8,7 +8,7 @@ use Rattle.fr_epoch.specs.Recoverer.{RecState, Parent, Plan, new_recoverer}
 use Rattle.fr_epoch.specs.Hear.{after_hear}
 use Rattle.fr_epoch.specs.Law.{IsRecoverer, HasSoundPlan}
 
--- its ballot is that of an epoch, the shape that it was given is one, its phase has come by what it must, its plan is of its ballot, and
+-- its ballot is an epoch's, the shape that it was given is one, it has everything that its phase requires, its plan is of its ballot, and
 -- both generations are within their limits
 pub record IsKept (r : RecState) : Type 0 where
   pub low : 256 ≤ r.ballot

@@ -79,7 +79,7 @@ AccountsFor r (node.Cell i) (ask.Cell a) = AccountsForCell r a
 AccountsFor r (node.Log e i) (ask.Log a) = AccountsForLog r e i a
 AccountsFor r to a = ⊥
 
--- what is pending, and what is asked newly, is accounted for
+-- pending asks and new asks are accounted for
 abbrev pub PendingIsAccounted : Type 0
 PendingIsAccounted = (r : RecState) → IsRecoverer r → All (λ s. AccountsFor r s.0 s.1) (pending r)
 

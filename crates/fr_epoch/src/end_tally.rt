@@ -76,7 +76,7 @@ impl EndTally {
         self.k
     }
 
-    /// Hears what the log of this number replied to its lock. The same reply again changes nothing.
+    /// Hears a log's reply to its lock. The same reply again changes nothing.
     pub fn hear(&mut self, index: u8, durable: Version, known: Version) -> Result<(), ReplyFault>
         ensures ok { IfOk result (λ _. heard_reply self.old (record { log = index; durable = durable; known = known }) ≡ Ok self.new) }
         ensures stranger { (result ≡ Err ReplyFault.Stranger) ↔ (self.old.m ≤ index) }

@@ -8,7 +8,7 @@ use fr_log::Peeked;
 use fr_tags::{is_held, tag_at};
 use fr_tail::Tail;
 
-/// Whether a copy is complete once it heard what the log of this number answered.
+/// Whether a copy is complete once it heard a log's answer.
 pub(crate) fn completes(tail: &Tail, index: u8, peeked: &Peeked) -> bool
     ensures { result ≡ is_complete (after_hear tail.now index peeked.now.tag peeked.now) }
 {
@@ -33,7 +33,7 @@ pub(crate) fn reached_with(tail: &Tail, index: u8, peeked: &Peeked, tag: Tag) ->
     }
 }
 
-/// Whether an answer goes on from what is copied of its tag.
+/// Whether an answer begins where the copy of its tag ends.
 fn goes_on(tail: &Tail, index: u8, peeked: &Peeked) -> bool
     ensures { result ≡ goes_on tail.now index peeked.now }
 {

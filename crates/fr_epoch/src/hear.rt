@@ -23,7 +23,7 @@ use fr_register::CellTell;
 use std::alloc::Global;
 
 impl Standing {
-    /// Hears what a node tells, and answers the new asks.
+    /// Hears a node's reply, and answers the new asks.
     pub(crate) fn hear(
         &mut self,
         alloc: Global,
@@ -48,7 +48,7 @@ impl Standing {
         }
     }
 
-    /// Hears a cell: its promises while it reads, and what it wrote while it writes.
+    /// Hears a cell: its promises in reading, and its written ballots in writing.
     fn hear_cell(
         &mut self,
         alloc: Global,

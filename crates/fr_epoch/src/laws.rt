@@ -44,8 +44,8 @@ pub fn write_law()
     ensures seeds { SeedsAreOne }
 {}
 
-/// What holds of a recoverer that heard nothing stays so: what its phase has come by, that its plan is of
-/// its ballot, and that the generations which it found and is going to open are within their limits.
+/// A new recoverer has these properties, and each hear keeps them: it has everything that its phase requires, its plan
+/// is of its ballot, and the generations that it found and is going to open are within their limits.
 pub fn kept_law()
     ensures new { NewIsKept }
     ensures hear { HearKeepsKept }
@@ -54,8 +54,8 @@ pub fn kept_law()
     tail_law();
 }
 
-/// What a recoverer goes on from is its parent without some of the first generations, never all, of which every
-/// tag was shown popped.
+/// A recoverer goes on from its parent without some of the first generations, never all. Of these every tag was shown
+/// popped.
 pub fn dropping_law()
     ensures left { LeftIsWithout }
     ensures shown { LeastIsShown }

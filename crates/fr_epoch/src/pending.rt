@@ -12,7 +12,7 @@ use fr_base::{Memory, NodeId};
 use std::alloc::Global;
 
 impl Standing {
-    /// All asks whose tells are wanted.
+    /// All asks that still want a reply.
     pub(crate) fn pending(&self, alloc: Global) -> Result<Vec<(NodeId, Ask)>, Memory>
         requires { IsKept (state_of self.now) }
         ensures { IfOk result (λ asks. asks.items ≡ pending (state_of self.now)) }

@@ -5,7 +5,7 @@ use fr_base::Version;
 /// How far a recoverer has come.
 #[derive(Clone, Copy, Debug, PartialEq, Eq)]
 pub enum Phase {
-    /// It asks the coordinators' cells what was written last.
+    /// It asks the coordinators' cells for their last write.
     Reading,
     /// It locks the logs of the parent's last generation, and waits until their replies cover.
     Locking,
@@ -16,7 +16,7 @@ pub enum Phase {
     /// Its state is chosen, and it pushes the mark: through `pev` all is known to be committed, and
     /// nothing above `rv` is.
     Chosen { pev: Version, rv: Version },
-    /// It gave up, and wants no reply any more. What it wrote may still be chosen.
+    /// It gave up, and wants no reply any more. The state that it wrote may still be chosen.
     Lost { why: LostWhy },
 }
 

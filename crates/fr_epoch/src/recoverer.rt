@@ -28,7 +28,7 @@ use std::marker::Model;
 /// 4. it writes the state with the next generation behind it;
 /// 5. once a majority of the cells holds that state, it pushes the mark to the new logs.
 ///
-/// Its asks may be sent again, and what it is told may come late, repeated or out of order. It is
+/// Its asks may be sent again, and replies may come late, repeated or out of order. It is
 /// FoundationDB's recovery (Zhou et al., SIGMOD 2021, section 2.4) over a disk Paxos group of
 /// coordinators (Gafni and Lamport, 2003).
 ///

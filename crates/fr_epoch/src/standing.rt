@@ -8,15 +8,15 @@ use fr_state::{CoordState, Generation};
 use fr_tags::ShardMap;
 use fr_tail::Tail;
 
-/// What a recoverer took over: the parent state, and its last generation, whose logs are to be locked.
+/// The state that a recoverer found, its parent, and the last generation in it, whose logs are to be locked.
 #[derive(Debug, Drop)]
 pub(crate) struct Found {
     pub(crate) state: CoordState,
     pub(crate) last: Generation,
 }
 
-/// What a recoverer is going to write: the state, the generation that is the last in it, and the copy of
-/// what that one takes over.
+/// A recoverer's plan: the state that it is going to write, the last generation in it, and the copy of what that
+/// generation takes over.
 #[derive(Debug, Drop)]
 pub(crate) struct Draft {
     pub(crate) state: CoordState,

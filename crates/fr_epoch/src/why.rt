@@ -8,7 +8,7 @@ pub enum LostWhy {
     /// A cell promised a greater ballot, so another attempt is on its way.
     #[error("Outballoted")]
     Outballoted,
-    /// What the cells hold is no state.
+    /// The cells hold no state.
     #[error("BadState")]
     BadState,
     /// A log knows a version to be committed that another one does not hold.

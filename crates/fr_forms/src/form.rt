@@ -1,7 +1,7 @@
 //! What a value of a script may be.
 use crate::table;
 
-/// What is handed out as soon as it is read, so that a script need not be kept whole.
+/// A part that is handed out as soon as it is read, so that a script need not be kept whole.
 #[derive(Clone, Copy, PartialEq, Eq)]
 pub enum Piece {
     /// An operation of `apply`, or a reply of `end`.
@@ -14,10 +14,10 @@ pub enum Piece {
     Journal,
 }
 
-/// The members of an object: their names, and what they may be.
+/// The members of an object: their names and forms.
 pub type Members = &'static [(&'static str, Form)];
 
-/// What a value may be: a row of the table.
+/// The form of a value: a row of the table.
 #[derive(Clone, Copy)]
 pub enum Form {
     /// Any value of JSON, which counts for nothing.
@@ -50,12 +50,12 @@ pub enum Form {
     Either(&'static Form, &'static Form),
     /// What a node is asked, by its name. (A proof that names a table writes out all that is nested in it.)
     Ask,
-    /// What a node tells, by its name.
+    /// A node's reply, by its name.
     Tell,
 }
 
 impl Form {
-    /// What a value is that is neither null nor left out.
+    /// The form of a value that is neither null nor left out.
     #[inline(always)]
     pub(crate) fn filled(&'static self) -> &'static Form {
         match self {

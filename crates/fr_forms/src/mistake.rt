@@ -4,7 +4,7 @@ use crate::reading::is_in_range;
 use json::{Reader, Scratch, Token};
 use std::alloc::{AllocError, Global};
 
-/// What may stand in a place.
+/// The values that may stand in a place.
 #[derive(Clone, Copy)]
 pub(crate) enum Wanted {
     /// JSON, of numbers that a double can come near, and nested 127 levels deep at most.
@@ -170,7 +170,7 @@ fn put_path(said: &mut String, levels: &[(usize, Read<'_>)]) -> Result<(), Alloc
     said.push_str(if said.len() > start { ": " } else { "" })
 }
 
-/// What stands in a place: the first token of a text.
+/// The value in a place: the first token of a text.
 fn put_found(said: &mut String, text: &str) -> Result<(), AllocError> {
     said.push_str("found ")?;
     match text.as_bytes() {
@@ -223,7 +223,7 @@ pub fn put_printable(text: &mut String, letter: char) -> Result<(), AllocError> 
     write!(text, "\\u{high:04x}\\u{low:04x}")
 }
 
-/// What may stand in a place.
+/// The values that may stand in a place.
 fn put_wanted(said: &mut String, wanted: Wanted) -> Result<(), AllocError> {
     match wanted {
         Wanted::Json => said.push_str(", which is no JSON here"),
@@ -237,7 +237,7 @@ fn put_wanted(said: &mut String, wanted: Wanted) -> Result<(), AllocError> {
     }
 }
 
-/// What a value of a form is.
+/// The description of a form's values.
 fn put_form(said: &mut String, form: &'static Form) -> Result<(), AllocError> {
     said.push_str(match form {
         Form::OrNull(_) => "null or ",

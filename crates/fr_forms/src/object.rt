@@ -41,7 +41,7 @@ impl Object {
         Value::Object(self.members)
     }
 
-    /// The object, as what makes one may answer.
+    /// The object, as the answer of a function that makes one.
     pub fn value(self) -> Result<Value, Memory> {
         Ok(self.into_value())
     }

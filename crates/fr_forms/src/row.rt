@@ -15,7 +15,7 @@ pub struct Row<'t> {
 
 /// A type whose values are read and written.
 pub trait Formed: Sized + Drop {
-    /// What was read, where its parts go together.
+    /// The value of a row, if its parts go together.
     fn from_row(alloc: Global, row: Row<'_>) -> Result<Self, Unread>;
 
     /// The value of JSON that it is written as.
@@ -112,7 +112,7 @@ pub struct Parts<'t> {
 }
 
 impl<'t> Parts<'t> {
-    /// What is made of the next one.
+    /// The value of the next one.
     pub fn take<T: Formed>(&mut self, alloc: Global) -> Result<T, Unread> {
         let mut slot = Slot::Absent;
         if let [next, rest @ ..] = self.rest {

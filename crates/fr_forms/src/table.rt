@@ -1,5 +1,5 @@
-//! The table: what each command reads, and what stands in it. Members of objects stand in the order of their names' bytes,
-//! in which they are written.
+//! The table: what each command reads, and what stands in it. Members of objects stand in the order of their names'
+//! bytes, in which they are written.
 use crate::form::Form::{
     Ask, Either, Flag, Handed, Hex, List, Number, Object, OneOf, Optional, OrNull, OrZero, Tell,
     Text, Tuple,
@@ -233,13 +233,13 @@ const OPERATION: Form = one_member! {
     forget: members! { through: VERSION }, advance: members! { version: VERSION }
 };
 
-/// What `Form::Ask` stands for.
+/// The form that `Form::Ask` stands for.
 pub static ASKED: Form = ASK;
 
-/// What `Form::Tell` stands for.
+/// The form that `Form::Tell` stands for.
 pub static TOLD: Form = TELL;
 
-/// A node, and what it tells.
+/// A node and its reply.
 pub static HEARD: Form = members! { from: NODE, tell: TELL };
 
 pub static APPLY: Form = members! { ops: List(&Handed(Piece::Line, &OPERATION)) };

@@ -4,18 +4,18 @@ use crate::mistake::{Mistake, Wanted};
 use fr_cli_json::tokens::Unread;
 use std::alloc::Global;
 
-/// The form of what counts for nothing.
+/// The form of a value that counts for nothing.
 static ANY: Form = Form::Any;
 
-/// The place of what counts for nothing.
+/// The place of a member that counts for nothing.
 const NOWHERE: usize = usize::MAX;
 
-/// A value that was read, or what is known of it.
+/// A value that was read, or what has to be known of it.
 #[derive(Clone, Copy)]
 pub(crate) enum Slot<'a> {
     /// A member that was left out, or is not read yet.
     Absent,
-    /// Null, or what was handed out.
+    /// Null, or a part that was handed out.
     Null,
     Flag(bool),
     Number(u64),
@@ -59,7 +59,7 @@ pub(crate) struct Open {
 }
 
 impl Open {
-    /// What is handed out of an array, if its items are.
+    /// The kind of part that the items of an array are handed out as, if they are.
     pub(crate) fn listed(self) -> Option<Piece> {
         match self.form {
             Form::List(Form::Handed(part, _)) => Some(*part),
@@ -97,7 +97,7 @@ impl<'a> Tape<'a> {
         Ok(())
     }
 
-    /// What is under way is not in its form, whatever follows.
+    /// The value that is being read is not in its form, whatever follows.
     #[inline(never)]
     fn spoil(&mut self, open: &mut Open, end: usize, wanted: Wanted) -> Result<(), Unread> {
         self.wrong(end, wanted)?;
@@ -280,7 +280,7 @@ impl<'a> Tape<'a> {
         Ok(())
     }
 
-    /// Notes mistakes in what has members, and what an object or an array lacks, or has too much.
+    /// Notes mistakes in an array or an object, and members or items that it lacks or has too many.
     #[inline(never)]
     fn look(&mut self, open: &mut Open, end: usize) -> Result<(), Unread> {
         let behind = open.base.wrapping_add(open.count);
@@ -315,7 +315,8 @@ fn is_in(number: u64, least: u64, most: u64) -> bool {
     least <= number && number <= most
 }
 
-/// Whether a text is lower case hex of at most so many bytes. (No byte ends the loop, so several are looked at at once.)
+/// Whether a text is lower case hex of at most so many bytes. (No byte ends the loop, so several are looked at at
+/// once.)
 fn is_hex(text: &[u8], most: usize) -> bool {
     let mut is_other = false;
     for byte in text {

@@ -11,7 +11,7 @@ cells due bytes = take (due.end - due.at) (drop due.at bytes)
 abbrev pub Part : Bool → ℕ → List ℕ → List ℕ → List ℕ → Type 0
 Part mixes at bytes old new = MatchBool mixes (Mixed at bytes old new) (Torn at (length bytes) old new)
 
--- what a crash may leave, if a write may be made anew before it: what is left below, and a part of that write
+-- the bytes that a crash may leave, if a write may be made anew before it: those left below, and a part of that write
 abbrev pub Leaves : Bool → Option Due → List ℕ → (List ℕ → Type 0) → List ℕ → Type 0
 Leaves mixes None bytes left c = left c
 Leaves mixes (Some due) bytes left c = (d : List ℕ) × left d × Part mixes due.at (cells due bytes) d c

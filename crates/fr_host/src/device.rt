@@ -10,10 +10,10 @@ use crate::marks::{keep, mark, overwrite};
 use fr_record::{Device, DeviceFault};
 use sqlite_disk::Disk;
 
-/// A device whose reads come from memory and whose writes go to a disk below too, which is read once. A byte is kept
-/// from the sync on to which that disk said yes. After its first write or sync that is refused each call answers
-/// `Device`, reads too: a kernel may drop what it could not write, so what the disk holds is not known until it is
-/// read again.
+/// A device whose reads come from memory and whose writes also go to a disk below, which is read once. A byte is kept
+/// from the sync on that the disk acknowledged. After its first write or sync that is refused each call answers
+/// `Device`, reads too: a kernel may drop bytes that it could not write, so nobody knows what the disk holds until it
+/// is read again.
 #[derive(Drop)]
 pub struct DiskDevice<K: Disk> {
     bytes: Vec<u8>,

@@ -1,7 +1,7 @@
 //! Why a file of the host was not opened.
 use thiserror::Error;
 
-/// Why a file of the host was not opened as a device. What was at its name is left as it was.
+/// Why a file of the host was not opened as a device. A file at that name is left as it was.
 #[derive(Clone, Copy, Debug, PartialEq, Eq, Error)]
 pub enum HostFault {
     /// Another process or handle has the lock of it.

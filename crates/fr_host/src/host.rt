@@ -27,7 +27,8 @@ pub fn open(
     path: &str,
     room: usize,
 ) -> Result<HostDevice, HostFault>
-    ensures content { IfOk result (λ d. IsTrue (⟦<FileFrom<Unknown> as Disk>⟧.is_clean (below_of d)) → (⟦<HostDevice as Device>⟧.disk d).content ≡ ⟦<Unknown as Start>⟧.db) }
+    ensures content { IfOk result (λ d. IsTrue (⟦<FileFrom<Unknown> as Disk>⟧.is_clean (below_of d))
+        → (⟦<HostDevice as Device>⟧.disk d).content ≡ ⟦<Unknown as Start>⟧.db) }
     ensures durable { IfOk result (λ d. IsDurable (⟦<HostDevice as Device>⟧.disk d)) }
     ensures capacity { IfOk result (λ d. ⟦<HostDevice as Device>⟧.capacity_of d ≡ max room (length (⟦<HostDevice as Device>⟧.disk d).content)) }
     ensures failures { IfOk result (λ d. ⟦<HostDevice as Device>⟧.failures_of d ≡ 0) }
@@ -48,9 +49,11 @@ pub fn open_from<S: Start>(
     room: usize,
     start: S,
 ) -> Result<DiskDevice<FileFrom<S>>, HostFault>
-    ensures content { IfOk result (λ d. IsTrue (⟦<FileFrom<S> as Disk>⟧.is_clean (below_of d)) → (⟦<DiskDevice<FileFrom<S>> as Device>⟧.disk d).content ≡ S.Start.db) }
+    ensures content { IfOk result (λ d. IsTrue (⟦<FileFrom<S> as Disk>⟧.is_clean (below_of d))
+        → (⟦<DiskDevice<FileFrom<S>> as Device>⟧.disk d).content ≡ S.Start.db) }
     ensures durable { IfOk result (λ d. IsDurable (⟦<DiskDevice<FileFrom<S>> as Device>⟧.disk d)) }
-    ensures capacity { IfOk result (λ d. ⟦<DiskDevice<FileFrom<S>> as Device>⟧.capacity_of d ≡ max room (length (⟦<DiskDevice<FileFrom<S>> as Device>⟧.disk d).content)) }
+    ensures capacity { IfOk result (λ d. ⟦<DiskDevice<FileFrom<S>> as Device>⟧.capacity_of d
+        ≡ max room (length (⟦<DiskDevice<FileFrom<S>> as Device>⟧.disk d).content)) }
     ensures failures { IfOk result (λ d. ⟦<DiskDevice<FileFrom<S>> as Device>⟧.failures_of d ≡ 0) }
 {
     let Files { mut log, db } = match sqlite_std_file::open(rt, path, start) {
@@ -79,7 +82,7 @@ fn unopened(error: OpenError) -> HostFault {
     }
 }
 
-/// What an error of the host is to the caller.
+/// The fault of an error of the host.
 fn fault_of(error: io::Error) -> HostFault {
     match error.kind() {
         io::ErrorKind::NotFound | io::ErrorKind::NotADirectory => HostFault::Missing,

@@ -1,4 +1,4 @@
--- How far the records of tags are popped, and what is left of what a log took.
+-- How far the records of tags are popped, and which ones are left.
 use Rattle.std.specs.Prelude.{◌≡◌, ℕ, suc, ◌+◌, Bool, true, ◌&&◌, ◌==◌, nat_lt, nat_le, List, [], ◌∷◌, filter, Option, None, Some, IsTrue, if◌then◌else◌, refl}
 use Rattle.std.specs.Option.{unwrap_or}
 use Rattle.std.specs.Cmp.Lexicographic.{pointwise}

@@ -57,7 +57,7 @@ known_of l = fold (λ version p. max version p.known) (first_of l.seed - 1) l.pu
 abbrev pub holds : LogState → ℕ → Bool
 holds l tag = is_held tag l.m l.k l.index
 
--- what a log has once it let go of what is popped: headers and marks stay
+-- a log without its popped batches: headers and marks stay
 unfoldable pub swept : LogState → LogState
 swept l = record l { seed = option_map (left_seed l.popped) l.seed; pushes = map (left_push l.popped) l.pushes }
 

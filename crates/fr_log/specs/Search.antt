@@ -8,7 +8,7 @@ use Rattle.fr_log.specs.declared.popped.PoppedTag.{PoppedTag}
 use Rattle.fr_log.specs.Left.{left_push}
 use Rattle.fr_log.specs.LogState.{seeded_record, pushed_record}
 
--- whether a push is among others, whatever it tells of what is known, and of what is popped
+-- whether a push is among others, whatever its `known` and its pops
 abbrev pub is_found : List PoppedTag → PushContent → List PushContent → Bool
 is_found popped p ps = list_any (λ q. is_one_push (left_push popped p) (left_push popped q)) ps
 

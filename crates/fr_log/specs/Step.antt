@@ -94,7 +94,7 @@ lets_go l (Peek epoch tag after most) = false
 lets_go l (MarkAsked epoch) = false
 lets_go l (Pop epoch tag through) = is_none (pop_refusal l epoch tag) && not (is_popped_to l tag (popped_to l tag through))
 
--- what is left of a log after an ask: what a Pop covers is let go
+-- a log after an ask, without the batches that a Pop covers
 abbrev pub after_ask : LogState → LogAsk → LogState
 after_ask l a = if lets_go l a then swept (next_of l a) else next_of l a
 

@@ -1,4 +1,4 @@
-//! What a log is asked, and what it tells.
+//! The asks of a log, and its replies.
 ghost use Rattle.std.specs.Prelude.{◌≡◌, ◌≤◌, ◌↔◌, IsTrue, IsSome, IfSome, IfOk, IsOk};
 ghost use Rattle.fr_log.specs.Law.{IsLogAsk, epoch_of, HasMost};
 ghost use Rattle.fr_log.specs.Lists.{ask_holds_no_list, tell_holds_no_list};
@@ -54,7 +54,7 @@ impl Most {
 /// A request to a log.
 #[derive(Clone, Debug, Drop, PartialEq, Eq)]
 pub enum LogAsk {
-    /// To take what an epoch takes over from the one before.
+    /// To take the records that an epoch takes over from the one before.
     Seed(Seed),
     /// To hold a commit.
     Push(Push),

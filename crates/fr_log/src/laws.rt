@@ -21,7 +21,7 @@ pub fn change_law()
     ensures taken { TakenIsNext }
 {}
 
-/// Nothing is lost of a log by what it is asked, until it lets go, so it can go back to what it was.
+/// Asks take nothing from a log until it lets go, so it can go back to an earlier state.
 pub fn place_law()
     ensures ask { AskExtends }
     ensures asks { AsksExtend }
@@ -56,9 +56,9 @@ pub fn raise_law()
     ensures nothing_else { NothingElseRaises }
 {}
 
-/// What a tell says: which ask it answers, that this was not refused, and what the log that gave it has.
-/// A peek gives all that the log has of the tag through a version, and comes further at each turn until
-/// that is the greatest one held.
+/// The meaning of a reply: which ask it answers, that this was not refused, and what the log holds then. A peek gives
+/// all that the log has of the tag through a version, and comes further at each turn until that is the greatest one
+/// held.
 pub fn tell_law()
     ensures answer { TellIsAnswer }
     ensures held { HeldIsHeld }
@@ -69,16 +69,16 @@ pub fn tell_law()
     ensures further { PeekGoesOn }
 {}
 
-/// What is popped: it is known to be committed, a Pop raises it for its tag alone, and a peek from there on is
-/// never answered that it is removed.
+/// Popped versions are known to be committed, a Pop raises them for its tag alone, and a peek from there on is never
+/// answered that it is removed.
 pub fn pop_law()
     ensures known { PoppedIsKnown }
     ensures above { NotRemovedAbove }
     ensures raised { RaisedIs }
 {}
 
-/// What a log lets go: it tells the same afterwards, whenever it lets go, and what is left is a log with the
-/// records of each tag above what is popped of it.
+/// Letting go changes no later reply, whenever it is done. A log is left with the records of each tag above the popped
+/// version of it.
 pub fn letting_law()
     ensures tells { SweptTells }
     ensures goes_on { SweptGoesOn }

@@ -1,4 +1,4 @@
-//! The log of one generation: what it is asked, what it holds, and what it answers.
+//! The log of one generation: its asks, its records and its replies.
 //!
 //! # Invariants
 //!

@@ -1,4 +1,4 @@
-//! A log: what it holds, and what it answers.
+//! A log: its records and its replies.
 ghost use Rattle.std.specs.Prelude.{◌≡◌, ◌<◌, ◌≤◌, is_some, map, IfOk};
 ghost use Rattle.std.specs.List.{list_all};
 ghost use Rattle.std.specs.List.Sorted.{IsNonDecreasingBy};
@@ -178,7 +178,7 @@ impl Log {
         self.pushes.mark()
     }
 
-    /// The numbers of its pushes, the oldest first: what is popped of a push does not change them.
+    /// The numbers of its pushes, the oldest first: pops do not change them.
     pub fn numbers(&self, alloc: Global) -> Result<Vec<PushNumbers>, Memory>
         ensures { IfOk result (λ list. list.items ≡ map pushed_numbers self.now.pushes) }
     {
@@ -192,7 +192,7 @@ impl Log {
         self.pushes.batch_at(tag, version)
     }
 
-    /// Lets go of what is popped. It takes no memory.
+    /// Frees the popped batches. It takes no memory.
     pub fn settle(&mut self)
         ensures after { self.new ≡ swept self.old }
         ensures sound { IsLog self.new }

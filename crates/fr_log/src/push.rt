@@ -187,7 +187,7 @@ impl Push {
         (header, self.bodies)
     }
 
-    /// Whether a header is its own, whatever that tells of what is known.
+    /// Whether a header is its own, whatever `known` the two have.
     pub(crate) fn is_headed(&self, header: &PushHeader) -> bool
         ensures { result ≡ is_headed self.now header.now }
     {
@@ -199,7 +199,7 @@ impl Push {
             && self.mark == header.mark
     }
 
-    /// Whether the two are one push, whatever they tell of what is known.
+    /// Whether the two are one push, whatever `known` they have.
     pub fn is_one_with(&self, other: &Push) -> bool
         ensures { result ≡ is_one_push self.now other.now }
     {

@@ -80,7 +80,6 @@ impl Pushes {
         self.headers.numbers(alloc)
     }
 
-    /// The batch of a tag at a version.
     pub(crate) fn batch_at(&self, tag: Tag, version: Version) -> Option<&Batch>
         ensures { option_copied result ≡ batch_at version (pushed_batches tag self.now) }
     {
@@ -90,8 +89,7 @@ impl Pushes {
         }
     }
 
-    /// Whether a push is among them, whatever it tells of what is known, and of what is popped. Its version is
-    /// sought by halving.
+    /// Whether a push is among them, whatever its `known` and its popped batches. Its version is sought by halving.
     pub(crate) fn has(&self, push: &Push, popped: &[PoppedTag]) -> bool
         ensures { result ≡ is_found popped.now push.now self.now }
     {
@@ -122,7 +120,7 @@ impl Pushes {
         Ok(())
     }
 
-    /// Lets go of the batches that are popped: the cost is that of what goes. It takes no memory.
+    /// Frees the popped batches, at the cost of these alone. It takes no memory.
     pub(crate) fn sweep(&mut self, popped: &[PoppedTag])
         ensures { self.new ≡ map (left_push popped.now) self.old }
     {
@@ -176,7 +174,7 @@ impl Clone for Pushes {
     }
 }
 
-/// Whether bodies are those held at a version, whatever the two have of what is popped.
+/// Whether bodies are those held at a version, apart from popped ones.
 fn have_bodies(shelves: &[Shelf], version: Version, bodies: &[Body], popped: &[PoppedTag]) -> bool
     ensures { result ≡ pointwise is_same_body (left_bodies popped.now version bodies.now)
         (left_bodies popped.now version (bodies_from version 0 shelves.now)) }
@@ -274,7 +272,7 @@ fn grow(alloc: Global, shelves: &mut Vec<Shelf>, number: usize) -> Result<(), Me
     Ok(())
 }
 
-/// Takes out of each shelf what is at a version or above it.
+/// Takes out of each shelf the batches at a version or above it.
 fn cut_all(shelves: &mut Vec<Shelf>, version: Version)
     ensures { (t : ℕ) → shelf_of shelves.new.items t ≡ cut version (shelf_of shelves.old.items t) }
 {
@@ -283,7 +281,7 @@ fn cut_all(shelves: &mut Vec<Shelf>, version: Version)
     }
 }
 
-/// Takes out of each shelf what is popped of its tag.
+/// Takes the popped batches out of each shelf.
 fn sweep_all(shelves: &mut Vec<Shelf>, popped: &[PoppedTag])
     ensures { (t : ℕ) → shelf_of shelves.new.items t ≡ above (popped_at popped.now t) (shelf_of shelves.old.items t) }
 {

@@ -117,7 +117,7 @@ impl Seed {
         Ok(true)
     }
 
-    /// Whether another seed is the same, whatever the two have of what is popped.
+    /// Whether another seed is the same, apart from popped records.
     pub(crate) fn is_left_as(&self, other: &Seed, popped: &[PoppedTag]) -> bool
         ensures { result ≡ is_same_seed (left_seed popped.now self.now) (left_seed popped.now other.now) }
     {

@@ -21,7 +21,7 @@ ValueAfterLaw = (m : Map) (mutations : List Mutation) (q : List ℕ) → get (af
 abbrev pub AfterAllLaw : Type 0
 AfterAllLaw = (m : Map) (first second : List Mutation) → after m (first ++ second) ≡ after (after m first) second
 
--- what a clip makes of a shard's part of a map is that part of what the mutations make of the map
+-- a clip changes a shard's part of a map as the mutations change the map
 abbrev pub ClipLaw : Type 0
 ClipLaw = (m : Map) (mutations : List Mutation) (s : Shard) → after (part m s) (clipped mutations s) ≡ part (after m mutations) s
 

@@ -98,7 +98,6 @@ impl AtomicOp {
         }
     }
 
-    /// The operation that has this byte.
     pub(crate) fn from_byte(byte: u8) -> Option<Self>
         ensures { result ≡ op_with byte }
     {

@@ -26,7 +26,8 @@ pub struct Batch {
 ///
 /// [`Batch::new`] takes no memory. A copy made before [`Batch::share`] is a new list of mutations, which its own
 /// copies share.
-// A list of at most one, where an enum would do: whoever drops an enum has a case for each variant, in every crate above.
+// A list of at most one, where an enum would do: whoever drops an enum has a case for each variant, in every crate
+// above.
 #[derive(Debug, Drop)]
 struct Held {
     alone: Vec<Mutation>,
@@ -125,6 +126,7 @@ impl Held {
     fn shared(mutations: Vec<Mutation>) -> Result<Self, AllocError>
         ensures { IfOk result (λ shared. held shared ≡ mutations.items) }
     {
+        // An `Arc` of an empty list would take memory, and whoever clips batches makes many of these.
         if mutations.is_empty() {
             return Ok(Held::alone(mutations));
         }
@@ -136,6 +138,7 @@ impl Held {
     fn share(self) -> Result<Self, AllocError>
         ensures { IfOk result (λ shared. held shared ≡ held self) }
     {
+        // Shared already, so there is nothing to move.
         if !self.shared.is_empty() {
             return Ok(self);
         }
@@ -154,7 +157,7 @@ impl Held {
         })
     }
 
-    /// The same mutations, shared by what is answered at least.
+    /// The same mutations, shared with the result at least.
     fn another(&self) -> Result<Self, AllocError>
         ensures { IfOk result (λ another. held another ≡ held self.now) }
     {
@@ -175,17 +178,16 @@ impl Held {
     }
 }
 
-/// Equal mutations.
 fn copies(mutations: &Vec<Mutation>) -> Result<Vec<Mutation>, AllocError>
     ensures { IfOk result (λ copies. copies.items ≡ mutations.now.items) }
 {
     mutations.clone()
 }
 
-/// The first limit that mutations break.
 fn fault_of(mutations: &[Mutation]) -> Option<BatchFault>
     ensures { result ≡ batch_fault mutations.now }
 {
+    // The count first, so that a list which is too long costs no walk.
     if mutations.len() > MAX_MUTATIONS {
         return Some(BatchFault::TooMany);
     }

@@ -15,7 +15,6 @@ pub(crate) enum Bitwise {
 }
 
 impl Bitwise {
-    /// One byte of two.
     fn byte(self, old: u8, param: u8) -> u8
         ensures { result ≡ byte_of self old param }
     {

@@ -13,7 +13,7 @@ pub fn after_all_law()
     ensures { AfterAllLaw }
 {}
 
-/// What a clip makes of a shard's part of a map is that part of what the batch makes of the map.
+/// A clip changes a shard's part of a map as the batch changes the map.
 pub fn clip_law()
     ensures { ClipLaw }
 {}

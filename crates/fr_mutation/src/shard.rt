@@ -50,6 +50,7 @@ pub fn clip(alloc: Global, batch: &Batch, shard: &Shard) -> Result<Batch, Memory
             mutations.push(part)?;
         }
     }
+    // Not tested again: parts of mutations within their limits are within them too.
     Batch::within(mutations)
 }
 
@@ -58,6 +59,7 @@ fn clip_one(mutation: &Mutation, shard: &Shard) -> Result<Option<Mutation>, Memo
     ensures { IfOk result (λ part. part ≡ clip_one shard.now mutation.now) }
 {
     if let Mutation::Clear { begin, end } = mutation {
+        // Cut to the shard, because a storage server must not act on keys of others.
         return clear_of(later(begin, &shard.begin), earlier(end, shard.end.as_ref()));
     }
     match mutation.key() {
@@ -70,6 +72,7 @@ fn clip_one(mutation: &Mutation, shard: &Shard) -> Result<Option<Mutation>, Memo
 fn clear_of(begin: &Bytes, end: &Bytes) -> Result<Option<Mutation>, Memory>
     ensures { IfOk result (λ clear. clear ≡ clear_of begin.now end.now) }
 {
+    // A clear of no key is left out, so that a body without effect is empty, and is not pushed.
     if begin.cmp(end).is_lt() {
         Ok(Some(Mutation::Clear {
             begin: begin.copy()?,
@@ -80,7 +83,6 @@ fn clear_of(begin: &Bytes, end: &Bytes) -> Result<Option<Mutation>, Memory>
     }
 }
 
-/// The later of two keys.
 fn later<'a>(a: &'a Bytes, b: &'a Bytes) -> &'a Bytes
     ensures { result.now ≡ later a.now b.now }
 {

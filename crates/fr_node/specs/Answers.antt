@@ -16,7 +16,7 @@ use Rattle.fr_node.specs.Kinds.{kind_of}
 use Rattle.fr_node.specs.Stands.{stand_of}
 use Rattle.fr_node.specs.Turns.{IsBack, IsTaken}
 
--- a node as others see it: which one, what it did, its state, what it asks in a turn, and the value that a key had at a version
+-- a node as others see it: its name, its entries, its state, its asks in a turn, and the value that a key had at a version
 pub record Seen : Type 0 where
   pub node : NodeId
   pub entries : List Entry

@@ -71,7 +71,7 @@ abbrev pub part_if : StorageState → Option Hearing → Option (Option ℕ)
 part_if n None = None
 part_if n (Some h) = part_of n h.version h.from h.tell
 
--- what is entered: what was taken of it, if anything was, and that the server crashed
+-- the entries: the part of it that was taken, if any was, and that the server crashed
 abbrev pub acts_of : Option Hearing → Option (Option ℕ) → List Act
 acts_of (Some h) (Some taken) = act.Heard h.from h.tell taken None ∷ act.Crashed ∷ []
 acts_of hearing part = act.Crashed ∷ []

@@ -31,7 +31,7 @@ pub trait Acting {
     /// The node.
     ghost node: { Self → NodeId };
 
-    /// What it did, the oldest first.
+    /// Its entries, the oldest first.
     ghost entries: { Self → List Entry };
 
     /// Its state, as others see it.
@@ -49,7 +49,7 @@ pub trait Acting {
     /// The reason why it is not started again, above a stamp, if there is one.
     ghost back_refusal: { Self → ℕ → Option Hearing → Option TurnRefusal };
 
-    /// What it asks in a turn, if the logs of an epoch may be asked for their mark.
+    /// Its asks in a turn, if the logs of an epoch may be asked for their mark.
     ghost wanted: { Self → ℕ → Option Newest → List (NodeId × Ask) };
 
     /// The value that a key had at a version.
@@ -70,22 +70,22 @@ pub trait Acting {
     /// Why such a node may be unable to go on.
     ghost CanCrash: { Crash → Type 0 };
 
-    /// Whether each turn is answered with what the node then asks. So it is of a proxy and of a recoverer, whose asks
-    /// follow from what they heard.
+    /// Whether each turn is answered with the node's next asks: those of a proxy and of a recoverer follow from the
+    /// replies that it heard.
     const TELLS_WANTS: bool = false;
 
-    /// The node.
+    /// Its name.
     fn place(&self) -> NodeId
         ensures { result ≡ node self.now };
 
-    /// How far it is.
+    /// The greatest ballot, stamp and version that it has, by which the numbers of a line are judged.
     fn reach(&self) -> Reach
         requires works { works self.now ≡ true }
         ensures { result ≡ reach_of (last_of self.now) (entries self.now) };
 
     /// Takes a turn, above the stamp that the asker has seen, and answers what is entered. A turn that is refused
     /// changes nothing that others see. It is refused for the reason of `refusal`, and else as `Full` alone, only if a
-    /// file lacks room for it.
+    /// file lacks room for it: otherwise a body that always answers `Full` would meet every clause.
     fn act(&mut self, alloc: Global, at: Stamp, turn: NodeTurn) -> Result<Entry, NodeTurnFault>
         requires works { works self.old ≡ true }
         ensures node { node self.new ≡ node self.old }
@@ -102,7 +102,8 @@ pub trait Acting {
         ensures { result ≡ joins last.now turn.now };
 
     /// Takes turns as one group, each above the stamp that came with it. It answers what is entered of each, and where
-    /// the node stood then, all as if they had come one by one. `None`: it takes them apart alone, and nothing was done.
+    /// the node stood then, all as if they had come one by one. `None`: it takes them apart alone, and nothing was
+    /// done.
     fn act_all(
         &mut self,
         alloc: Global,
@@ -181,7 +182,7 @@ pub trait Acting {
         ensures refused { RefusesFor (read_refusal self.old key.now version) result }
         ensures crashed { IfCrashed result CanCrash };
 
-    /// What it asks in a round.
+    /// Its asks in a round.
     fn wants(&self, alloc: Global, round: Round) -> Result<Wants, NodeTurnFault>
         ensures asks { IfOk result (λ asks. asks ≡ wanted self.now round.turn round.newest) }
         ensures crashed { IfCrashed result CanCrash }

@@ -24,20 +24,24 @@ pub struct Reach {
     pub version: Option<Version>,
 }
 
-/// Whether a turn, or the stamp that comes with it, is further ahead than so many rounds, stamps, or versions of so many
-/// commits. What was not reached yet, as the stamp of a process that did nothing, may be any.
+/// Whether a turn, or the stamp that comes with it, is further ahead than so many rounds, stamps, or versions of so
+/// many commits. What was not reached yet, as the stamp of a process that did nothing, may be any.
+///
+/// A read of ballot 2^48 - 1 would leave a cell that no later recoverer can use, and a stamp of 2^40 - 1 a node without
+/// stamps. The price of refusing them is that a node which rested while the others made more than `most` entries
+/// refuses stamps that are right, until its process is started again.
 pub fn is_ahead(most: u64, reach: &Reach, at: Stamp, turn: &NodeTurn) -> bool
     ensures { result ≡ is_ahead most reach.now at turn.now }
 {
     stamp_is_ahead(most, reach, at) || turn_is_ahead(most, reach, turn)
 }
 
-/// Whether a stamp is.
 pub(crate) fn stamp_is_ahead(most: u64, reach: &Reach, at: Stamp) -> bool
     ensures { result ≡ stamp_is_ahead most reach.now at }
 {
     match reach.stamp {
         Some(last) => is_beyond(last.get(), 1, most, at.get()),
+        // A process keeps no entries from before it was started, so it cannot judge its first stamp.
         None => false,
     }
 }
@@ -73,6 +77,8 @@ fn turn_is_ahead(most: u64, reach: &Reach, turn: &NodeTurn) -> bool
             ..
         } => ballot_is_ahead(most, reach, *ballot),
         NodeTurn::Hear { tell, .. } => tell_is_ahead(most, reach, tell),
+        // Numbers of a log, a sequencer and a proxy follow their own by steps of at most 1,000,000 anyway; stamps are
+        // judged apart.
         _ => false,
     }
 }
@@ -88,6 +94,7 @@ fn tell_is_ahead(most: u64, reach: &Reach, tell: &Tell) -> bool
         Tell::Log(LogTell::Marked { state }) => {
             ballot_is_ahead(most, reach, state.last().epoch().ballot())
         }
+        // No other tell moves a storage server.
         _ => false,
     }
 }
@@ -97,5 +104,7 @@ fn is_beyond(reached: u64, unit: u64, most: u64, number: u64) -> bool
     requires unit { 0 < unit }
     ensures { result ≡ is_beyond (Some reached) unit most number }
 {
+    // Units are compared and not numbers, because any ballot of a round may come. A number below the one that was
+    // reached is never ahead.
     (number / unit).saturating_sub(reached / unit) > most
 }

@@ -44,10 +44,14 @@ fn part_of_peeked<S: ShardStore>(
 {
     let (_, version) = storage.position();
     let floor = storage.floor();
+    // A hear stops at the end of its epoch, because the versions above belong to the next one (invariant 3 of
+    // fr_storage).
     let target = match storage.state().end_of(epoch) {
         Some(end) => peeked.upto().min(end),
         None => peeked.upto(),
     };
+    // The floor too: it rises last, so a hear that was cut off before may have applied all records already (invariant 6
+    // of fr_storage).
     let has_all = target <= version && peeked.known().min(version) <= floor;
     part_at(has_all, before, version)
 }
@@ -63,6 +67,8 @@ fn part_of_marked<S: ShardStore>(
 {
     equal_law();
     let (_, version) = storage.position();
+    // The undo comes before the new state is stored, so the state tells whether all of it was taken (invariant 5 of
+    // fr_storage).
     part_at(storage.state() == state, before, version)
 }
 
@@ -73,6 +79,7 @@ fn part_at(has_all: bool, before: Version, version: Version) -> Option<Option<Ve
     if has_all {
         Some(None)
     } else if version == before {
+        // A part of a hear always moves the version, so a server at the old one took nothing.
         None
     } else {
         Some(Some(version))

@@ -12,7 +12,8 @@ use std::snapshot::Snapshot;
 
 /// What a node did in its process, entry by entry. Contracts see it as the node, its entries, the oldest first, and for
 /// how many entries more there is room. The process keeps the last stamp alone: a snapshot of an entry has no bytes, so
-/// the course takes the same memory however long it is. Whoever wants the entries has them from the answers.
+/// the course takes the same memory however long it is, and what is proved of journals is true of it. Whoever wants the
+/// entries has them from the answers.
 #[derive(Drop)]
 pub struct Course {
     node: NodeId,
@@ -100,7 +101,9 @@ impl Course {
         ensures node { self.new.node ≡ self.old.node }
         ensures room { self.new.room + 1 ≡ self.old.room }
     {
+        // A snapshot has no bytes, so this list says to contracts alone what was entered (invariant 5).
         self.entries.push_reserved(Snapshot::of(entry));
+        // All that the process keeps of an entry: the next stamp has to be above it (invariant 2).
         self.last = Some(entry.stamp);
     }
 

@@ -14,7 +14,7 @@ use fr_audit_journal::{Act, Entry};
 use fr_base::{Machine, Memory, NodeId, Stamp};
 use std::alloc::Global;
 
-/// What is to be entered of an ask: all but what it is told.
+/// The entry of an ask before its reply is there.
 #[derive(Debug, Drop)]
 pub(crate) struct Draft {
     stamp: Stamp,
@@ -30,6 +30,7 @@ fn draft_of(last: u64, at: Stamp, turn: &NodeTurn) -> Result<Option<Draft>, Memo
 {
     let _within = at.get();
     match turn {
+        // As `stamp_above` has it, since each is to be entered as if it had come alone (invariants 2 and 8).
         NodeTurn::Ask { from, ask } => match Stamp::new(last.max(at.get()) + 1) {
             Some(stamp) => Ok(Some(Draft {
                 stamp,
@@ -60,9 +61,11 @@ pub(crate) fn drafts_of(
     for (at, turn) in turns {
         match draft_of(last, *at, turn)? {
             Some(draft) => {
+                // The next one stands above this one, though nothing is entered yet (invariant 2).
                 last = draft.stamp.get();
                 drafts.push(draft)?;
             }
+            // Nothing was done yet, so they can still be taken one by one.
             None => return Ok(None),
         }
     }
@@ -88,7 +91,6 @@ where
     Ok(Some(asks))
 }
 
-/// A list with room for so many entries.
 pub(crate) fn room_for(alloc: Global, count: usize) -> Result<Vec<Entry>, Memory>
     ensures none { IfOk result (λ entries. entries.items ≡ []) }
     ensures room { IfOk result (λ entries. count ≤ vec_capacity entries) }
@@ -96,7 +98,7 @@ pub(crate) fn room_for(alloc: Global, count: usize) -> Result<Vec<Entry>, Memory
     Ok(Vec::with_capacity(alloc, count)?)
 }
 
-/// Enters drafts with what their asks were told, for which there is room. It takes no memory.
+/// Enters drafts with the replies to their asks, for which there is room. It takes no memory.
 pub(crate) fn enter_all<M: Answering>(
     course: &mut Course,
     entries: &mut Vec<Entry>,
@@ -147,6 +149,8 @@ pub(crate) fn with_lasts<M: Answering, G: Grouping<M>>(
     let mut last = first;
     for entry in entries {
         if let Act::Asked { ask, tell, .. } = &entry.act {
+            // From the one before and from its tell alone, because the machine's own state is by now that behind the
+            // whole group (invariant 8).
             last = G::last_after(&last, ask, tell)?;
         }
         all.push((entry, last.copy()?))?;

@@ -2,7 +2,8 @@
 use fr_base::{Memory as NoMemory, NodeFault};
 use thiserror::Error;
 
-/// Why a node refuses a turn or a read. A refusal changes nothing. Of several reasons the first of these variants is told.
+/// Why a node refuses a turn or a read. A refusal changes nothing. Of several reasons the first of these variants is
+/// told.
 #[derive(Clone, Copy, Debug, PartialEq, Eq, Error)]
 pub enum TurnRefusal {
     /// A ballot, a stamp or a version is further ahead than the node may follow at once.

@@ -8,7 +8,7 @@ use fr_ask::{Ask, Last, Tell};
 use fr_base::{Machine, Memory, Node, NodeFault};
 use std::alloc::Global;
 
-/// Which asks of a machine stand in groups, and what others see of it between them.
+/// Which asks of a machine stand in groups, and its state between them as others see it.
 pub trait Grouping<M: Answering> {
     ghost use Rattle.std.specs.Prelude.{◌≡◌, Bool, Option, Some};
     ghost use Rattle.fr_ask.specs.declared.ask.Ask.{Ask};
@@ -34,12 +34,12 @@ pub trait Grouping<M: Answering> {
         ensures { IfOk result (λ later. (s : M) (a : M.Ask) → last.now ≡ M.last_of s → owned ask.now ≡ Some a
             → tell.now ≡ M.wrapped_tell (M.told s a) → later ≡ M.last_of (M.after s a)) };
 
-    /// What stands in groups is an ask of the machine.
+    /// An ask that stands in groups is one of the machine.
     ghost is_own: { (ask : Ask) (a : M.Ask) → owned ask ≡ Some a → M.unwrapped ask ≡ Some a };
 }
 
-/// How a node serves several asks as one group, if it does: they are told what they would have been told one by one, and
-/// a crash leaves all of them taken, or none.
+/// How a node serves several asks as one group, if it does: their replies are those that they would have had one by
+/// one, and a crash leaves all of them taken, or none.
 pub trait Groups<N: Node>
 where
     N::Plain: Answering,

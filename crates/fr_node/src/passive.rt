@@ -79,7 +79,7 @@ where
         }
     }
 
-    /// What it did. It leads from the state in which its process found the node to the one in which it is.
+    /// Its entries. They lead from the state in which its process found the node to the one in which it is.
     pub fn course(&self) -> &Course
         ensures place { result.now.node ≡ self.now.place }
         ensures entries { result.now.entries ≡ self.now.entries }
@@ -108,19 +108,21 @@ fn started_again(
     ensures err { OnErr result (course.new.entries ≡ course.old.entries) }
     ensures crashed { IfCrashed result (λ why. why ≡ Crash.Memory) }
 {
+    // A node in memory ends with its process: one that went on from an empty state would be another node (invariant 7).
+    // And a node that answers asks hears nothing.
     if !has_files || hearing.is_some() {
         return Err(NodeTurnFault::Refused(TurnRefusal::NotTaken));
     }
     let Some(stamp) = stamp_above(course, at) else {
         return Err(NodeTurnFault::Refused(TurnRefusal::StampsSpent));
     };
+    // The answer and the room before the entry, since both can run out of memory (invariant 3).
     let answered = only_crash(alloc, stamp)?;
     course.reserve()?;
     course.enter(&crash_at(stamp));
     Ok(answered)
 }
 
-/// A list of the entry of a crash.
 fn only_crash(alloc: Global, stamp: Stamp) -> Result<Vec<Entry>, Memory>
     ensures { IfOk result (λ list. list.items ≡ record { stamp = stamp; act = Act.Crashed } ∷ []) }
 {
@@ -200,14 +202,19 @@ where
             NodeTurn::Submit { .. } => return Err(NodeTurnFault::Refused(TurnRefusal::NotTaken)),
             NodeTurn::Begin => return Err(NodeTurnFault::Refused(TurnRefusal::NotTaken)),
         };
+        // In the order of the refusals' names: the kind of the turn, then its ask, then the stamps (invariant 4).
         let Some(own) = N::Plain::unwrap(ask) else {
             return Err(NodeTurnFault::Refused(TurnRefusal::OtherAsk));
         };
         let Some(stamp) = stamp_above(&self.course, at) else {
             return Err(NodeTurnFault::Refused(TurnRefusal::StampsSpent));
         };
+        // Room first, because the node is asked next, and what it takes has to be entered (invariant 3).
         self.course.reserve()?;
+        // A copy is served, and the other one entered.
         let served = N::Plain::copy_ask(&own)?;
+        // If the file fails here, whether it holds the ask is found once the process is started again (invariant 7).
+        // Nothing was answered, so nobody knows more (invariant 6).
         let tell = self.node.serve(alloc, served)?;
         let entry = Entry {
             stamp,
@@ -240,6 +247,8 @@ where
         alloc: Global,
         turns: &[(Stamp, NodeTurn)],
     ) -> Result<Option<Vec<(Entry, Last)>>, NodeTurnFault> {
+        // Apart, since a turn without a draft is to be refused, and by its own reason: a group is never refused
+        // (invariant 8).
         let Some(drafts) = drafts_of(alloc, &self.course, turns)? else {
             return Ok(None);
         };
@@ -254,6 +263,7 @@ where
             return Ok(None);
         };
         enter_all::<N::Plain>(&mut self.course, &mut entries, drafts, tells);
+        // Worked out from `first`, since the machine itself stands behind all of them already (invariant 8).
         Ok(Some(with_lasts::<N::Plain, G>(alloc, first, entries)?))
     }
 

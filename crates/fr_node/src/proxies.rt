@@ -62,7 +62,7 @@ impl ProxyNode {
         }
     }
 
-    /// What it did. It leads from the proxy that the process began with to the one that it has.
+    /// Its entries. They lead from the proxy that the process began with to the one that it has.
     pub fn course(&self) -> &Course
         ensures place { result.now.node ≡ self.now.place }
         ensures entries { result.now.entries ≡ self.now.entries }
@@ -79,6 +79,7 @@ impl ProxyNode {
         ensures left { IfRefused result (self.new ≡ self.old) }
         ensures crashed { IfCrashed result IsMemory }
     {
+        // Before the stamps are looked at, in the order of the refusals' names (invariant 4).
         match self.proxy.submit_fault() {
             Some(SubmitFault::TwoOpen) => return Err(NodeTurnFault::Refused(TurnRefusal::TwoOpen)),
             Some(_) => return Err(NodeTurnFault::Refused(TurnRefusal::Over)),
@@ -88,11 +89,14 @@ impl ProxyNode {
             return Err(NodeTurnFault::Refused(TurnRefusal::StampsSpent));
         };
         self.course.reserve()?;
+        // The proxy takes one and the other is entered. Copied before it takes any, since this can run out of memory
+        // (invariant 3).
         let taken = batch.copy()?;
         let entry = Entry {
             stamp,
             act: Act::Submitted { step, batch },
         };
+        // Its ask is dropped: `wants` makes it anew in each round, until it is answered.
         let Ok(_asked) = self.proxy.submit(step, taken) else {
             unreachable!();
         };
@@ -100,7 +104,7 @@ impl ProxyNode {
         Ok(entry)
     }
 
-    /// Hears what a node told it, and enters that.
+    /// Hears a node's reply, and enters it.
     fn hear(
         &mut self,
         alloc: Global,
@@ -118,6 +122,7 @@ impl ProxyNode {
             return Err(NodeTurnFault::Refused(TurnRefusal::StampsSpent));
         };
         self.course.reserve()?;
+        // As above, `wants` makes its asks anew.
         let (outcome, _asks) = self.proxy.hear(alloc, from, &tell)?;
         let entry = Entry {
             stamp,
@@ -128,6 +133,8 @@ impl ProxyNode {
                 outcome: Some(outcome),
             },
         };
+        // Looked at only below: the proxy has heard the tell, so it is entered whether or not there was memory for the
+        // answer (invariant 1).
         let answered = entry.copy();
         self.course.put(entry);
         Ok(answered?)

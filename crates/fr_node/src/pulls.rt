@@ -35,6 +35,7 @@ fn add_mark(asks: &mut Vec<(NodeId, Ask)>, newest: Option<Newest>, turn: u32) ->
     ensures { OnOk result (asks.new.items ≡ asks.old.items ++ mark_asks newest turn) }
 {
     if let Some(Newest { epoch, logs }) = newest {
+        // Without logs there is nobody to ask, and the turn has no remainder by their number.
         if logs > 0 {
             let to = log_at(epoch, logs, turn);
             asks.reserve(1)?;
@@ -44,8 +45,8 @@ fn add_mark(asks: &mut Vec<(NodeId, Ask)>, newest: Option<Newest>, turn: u32) ->
     Ok(())
 }
 
-/// What a storage server asks in a turn. It asks a holder of its tag for its records, a log of the newest epoch for
-/// its mark, and a holder of its own epoch to let go of what it has for good.
+/// A storage server's asks in a turn: a holder of its tag for records, a log of the newest epoch for its mark, and a
+/// holder of its own epoch to free what the server has for good.
 pub(crate) fn asks_at<S: ShardStore>(
     alloc: Global,
     storage: &Storage<S>,

@@ -63,7 +63,7 @@ pub(crate) fn value_said<S: ShardStore>(
     }
 }
 
-/// What a fault of a storage server is to its process.
+/// The end of the process of a storage server that has this fault.
 pub(crate) fn end_of(fault: StorageFault) -> NodeTurnFault
     ensures { IsStoreEnd result }
 {

@@ -73,7 +73,7 @@ impl RecovererNode {
         }
     }
 
-    /// What it did. It leads from the recoverer that the process began with to the one that it has.
+    /// Its entries. They lead from the recoverer that the process began with to the one that it has.
     pub fn course(&self) -> &Course
         ensures place { result.now.node ≡ self.now.place }
         ensures entries { result.now.entries ≡ self.now.entries }
@@ -90,6 +90,7 @@ impl RecovererNode {
         ensures left { IfRefused result (self.new ≡ self.old) }
         ensures crashed { IfCrashed result IsMemory }
     {
+        // Once: a recoverer is of one ballot, and whoever wants to try again begins a greater one.
         if self.has_begun {
             return Err(NodeTurnFault::Refused(TurnRefusal::Begun));
         }
@@ -97,13 +98,14 @@ impl RecovererNode {
             return Err(NodeTurnFault::Refused(TurnRefusal::StampsSpent));
         };
         self.course.reserve()?;
+        // Behind all that can fail, so that a refusal leaves it as one that has not begun (invariant 4).
         self.has_begun = true;
         let entry = begun_at(stamp, self.shape);
         self.course.enter(&entry);
         Ok(entry)
     }
 
-    /// Hears what a node told it, and enters that.
+    /// Hears a node's reply, and enters it.
     fn hear(
         &mut self,
         alloc: Global,
@@ -117,6 +119,7 @@ impl RecovererNode {
         ensures left { IfRefused result (self.new ≡ self.old) }
         ensures crashed { IfCrashed result IsMemory }
     {
+        // It has asked nobody yet, so what it hears is no answer to it.
         if !self.has_begun {
             return Err(NodeTurnFault::Refused(TurnRefusal::NotBegun));
         }
@@ -124,14 +127,15 @@ impl RecovererNode {
             return Err(NodeTurnFault::Refused(TurnRefusal::StampsSpent));
         };
         self.course.reserve()?;
+        // Copied before the recoverer takes the tell, since this can run out of memory (invariant 3).
         let entry = heard_at(stamp, from, tell.copy()?);
+        // Its asks are dropped: `wants` makes them anew in each round, until they are answered.
         let _asks = self.recoverer.hear(alloc, from, tell)?;
         self.course.enter(&entry);
         Ok(entry)
     }
 }
 
-/// The entry of a recoverer that began.
 fn begun_at(stamp: Stamp, shape: Option<Shape>) -> Entry
     ensures { result ≡ record { stamp = stamp; act = Act.Begun shape } }
 {
@@ -234,6 +238,8 @@ impl Acting for RecovererNode {
     }
 
     fn wants(&self, alloc: Global, _round: Round) -> Result<Wants, NodeTurnFault> {
+        // Its asks follow from its beginning: sent before, no entry of its journal would account for them
+        // (invariant 1).
         if self.has_begun {
             Ok(Wants::from_vec(self.recoverer.pending(alloc)?))
         } else {

@@ -1,4 +1,4 @@
-//! What a process is asked of its node, and what it answers.
+//! The requests to a process, and its answers.
 ghost use Rattle.std.specs.Prelude.{◌≡◌, true, None, IfOk, IfSome};
 ghost use Rattle.fr_node.specs.declared.reply.NodeRequest.{NodeRequest};
 ghost use Rattle.fr_node.specs.Ahead.{ahead_or, order_is_ahead, reach_of};
@@ -16,7 +16,7 @@ use fr_audit_journal::Entry;
 use fr_base::{Bytes, NodeId, Stamp, Version};
 use std::alloc::Global;
 
-/// What a line asks a process of its node.
+/// A line's request to the process of a node.
 #[derive(Debug, Drop)]
 pub enum NodeRequest {
     /// Which node it is, and where it stands: its whole state, or that without rows.
@@ -25,7 +25,7 @@ pub enum NodeRequest {
     },
     /// Its state.
     Last,
-    /// What it asks in a turn.
+    /// Its asks in a turn.
     Wants {
         turn: u32,
         newest: Option<Newest>,
@@ -49,7 +49,7 @@ pub enum NodeRequest {
     },
 }
 
-/// What a process answers.
+/// The answer of a process.
 #[derive(Debug, Drop)]
 pub enum NodeReply {
     /// The node, and where it stands.
@@ -61,7 +61,7 @@ pub enum NodeReply {
     Last {
         last: Last,
     },
-    /// What it asks.
+    /// Its asks.
     Wants {
         wants: Wants,
     },
@@ -69,21 +69,21 @@ pub enum NodeReply {
     Read {
         value: Option<Bytes>,
     },
-    /// What is entered of a turn of a kind, where the node then stands, and what it asks, if it asks others.
+    /// The kind of a turn and its entry, where the node then stands, and its next asks, if it asks others.
     Taken {
         kind: Kind,
         entry: Entry,
         stand: Stand,
         wants: Option<Wants>,
     },
-    /// What was entered when it was started again, and where it stands.
+    /// The entries of its new start, and where it stands.
     Back {
         entries: Vec<Entry>,
         stand: Stand,
     },
 }
 
-/// Does what is asked of a node, and answers it. A turn or a start is refused as `TooFar`, before anything else is looked
+/// Does what a request says, and answers it. A turn or a start is refused as `TooFar`, before anything else is looked
 /// at, if a number of it is further ahead than so many rounds, stamps, or versions of so many commits.
 pub fn answer<T: Acting>(
     alloc: Global,
@@ -126,6 +126,7 @@ pub fn answer<T: Acting>(
             Ok(NodeReply::Read { value })
         }
         NodeRequest::Take { at, turn, is_whole } => {
+            // Before the turn is looked at otherwise: a number that was taken once would never go again (invariant 9).
             if is_ahead(most, &node.reach(), at, &turn) {
                 return Err(NodeTurnFault::Refused(TurnRefusal::TooFar));
             }
@@ -136,6 +137,8 @@ pub fn answer<T: Acting>(
             hearing,
             is_whole,
         } => {
+            // The stamp alone, because a start changes nothing else: the hear that comes with it is only entered
+            // (invariant 9).
             if stamp_is_ahead(most, &node.reach(), at) {
                 return Err(NodeTurnFault::Refused(TurnRefusal::TooFar));
             }
@@ -146,7 +149,6 @@ pub fn answer<T: Acting>(
     }
 }
 
-/// Has a node take a turn.
 fn take<T: Acting>(
     alloc: Global,
     node: &mut T,
@@ -168,6 +170,7 @@ fn take<T: Acting>(
 {
     let kind = turn.kind();
     let entry = node.act(alloc, at, turn)?;
+    // Behind the entry: a router that is told where the node stands takes it for the state that the entry led to.
     let stand = node.stand(alloc, is_whole)?;
     let wants = wants_of(alloc, node)?;
     Ok(NodeReply::Taken {
@@ -178,13 +181,14 @@ fn take<T: Acting>(
     })
 }
 
-/// What a node asks once it took a turn, if it says so with each.
+/// A node's asks once it took a turn, if it says them with each.
 fn wants_of<T: Acting>(alloc: Global, node: &T) -> Result<Option<Wants>, NodeTurnFault>
     ensures asks { IfOk result (λ asks. IfSome asks (λ wants. wants ≡ T.wanted node.now 0 None)) }
     ensures crashed { IfCrashed result T.CanCrash }
     ensures never_refused { IfRefused result ⊥ }
 {
     if T::TELLS_WANTS {
+        // Any round would do: a proxy and a recoverer ask the same in each until they hear something.
         let round = Round {
             turn: 0,
             newest: None,

@@ -20,5 +20,7 @@ pub fn stamp_above(course: &Course, at: Stamp) -> Option<Stamp>
         None => 0,
     };
     let _within = at.get();
+    // Above its own last entry, because a node's stamps rise, and above the asker's, so that no effect comes before its
+    // cause (invariant 2).
     Stamp::new(last.max(at.get()) + 1)
 }

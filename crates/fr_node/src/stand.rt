@@ -5,7 +5,9 @@ ghost use Rattle.fr_node.specs.Stands.{stand_of};
 use fr_ask::Last;
 use fr_base::{Epoch, Version};
 
-/// Where a node stands: its state, as others see it; or, of a storage server, all of that but its rows.
+/// Where a node stands: its state, as others see it; or, of a storage server, all of that but its rows. With these an
+/// answer to one record would cost as much as the whole store, and they are needed once, at the end of an audit. The
+/// states of other nodes are small, and stand in every answer.
 #[derive(Debug, Drop)]
 pub enum Stand {
     /// Its state.

@@ -89,7 +89,7 @@ impl<S: ShardStore> StorageNode<S> {
         }
     }
 
-    /// What it did. While it works, that leads from the server that the process began with to the one that it has.
+    /// Its entries. While it works, they lead from the server that the process began with to the one that it has.
     pub fn course(&self) -> &Course
         ensures place { result.now.node ≡ self.now.place }
         ensures entries { result.now.entries ≡ self.now.entries }
@@ -119,10 +119,12 @@ impl<S: ShardStore> StorageNode<S> {
         let Some(stamp) = stamp_above(&self.course, at) else {
             return Err(NodeTurnFault::Refused(TurnRefusal::StampsSpent));
         };
+        // Room first: what the store takes stays there, and has to be entered (invariant 3).
         self.course.reserve()?;
         let taken = match take_told(alloc, &mut self.storage, &from, &tell) {
             Ok(taken) => taken,
             Err(fault) => {
+                // A store that failed shows no state, so nothing leads to it any more (invariant 6).
                 self.is_over = true;
                 return Err(end_of(fault));
             }
@@ -162,6 +164,7 @@ impl<S: ShardStore> StorageNode<S> {
             Ok(value) => Ok(value),
             Err(NodeTurnFault::Refused(why)) => Err(NodeTurnFault::Refused(why)),
             Err(NodeTurnFault::Crashed(why)) => {
+                // A store that failed in a read shows no state either (invariant 6).
                 self.is_over = true;
                 Err(NodeTurnFault::Crashed(why))
             }
@@ -190,9 +193,12 @@ impl<S: ShardStore> StorageNode<S> {
         if !self.has_files {
             return Err(NodeTurnFault::Refused(TurnRefusal::NotTaken));
         }
+        // Only as its first turn: what was taken of the hear is read off the state in which its process found it
+        // (invariant 7).
         if !self.course.is_empty() {
             return Err(NodeTurnFault::Refused(TurnRefusal::Begun));
         }
+        // Two, whether or not both are needed, so that the refusal does not depend on what the store is found with.
         let Some(stamps) = two_stamps(at) else {
             return Err(NodeTurnFault::Refused(TurnRefusal::StampsSpent));
         };
@@ -201,6 +207,7 @@ impl<S: ShardStore> StorageNode<S> {
             None => None,
         };
         let (course, answered) = begun_again(alloc, self.course.node(), stamps, hearing, part)?;
+        // A course of its own until now, so that a start for which memory ran out entered nothing (invariant 3).
         self.course = course;
         Ok(answered)
     }
@@ -217,8 +224,8 @@ fn two_stamps(at: Stamp) -> Option<(Stamp, Stamp)>
     Some((first, second))
 }
 
-/// What a storage server enters that was started again, and the course of a place with it alone: of the hear that was
-/// under way what it took, if it took any, and that it crashed.
+/// The entries of a storage server that was started again, and a course with these alone: the part that it took of the
+/// hear that was under way, if it took any, and that it crashed.
 fn begun_again(
     alloc: Global,
     place: NodeId,
@@ -250,6 +257,7 @@ fn begun_again(
             course.reserve()?;
             course.enter(&entry);
             answered.push(entry)?;
+            // The crash comes behind the hear that it cut off, in stamps as in the list (invariant 2).
             second
         }
         _ => first,

@@ -19,7 +19,6 @@ impl Envelope {
         }
     }
 
-    /// That of a line with this body.
     pub(crate) fn of(
         alloc: Global,
         line: &Members<'_>,

@@ -77,7 +77,6 @@ impl Member {
         }
     }
 
-    /// Its form.
     pub(crate) fn form(self) -> &'static Form {
         match self {
             Member::Src | Member::Dest | Member::Type => &TEXT,
@@ -195,7 +194,6 @@ const CRASH: u64 = 13;
 /// The node refuses it.
 const ABORT: u64 = 14;
 
-/// What is wrong with a line.
 fn bad_text(bad: BadLine) -> &'static str {
     match bad {
         BadLine::TooLong => "the line is too long",
@@ -208,7 +206,6 @@ fn bad_text(bad: BadLine) -> &'static str {
     }
 }
 
-/// The name of a refusal.
 fn refusal_text(why: TurnRefusal) -> &'static str {
     match why {
         TurnRefusal::TooFar => "TooFar",
@@ -226,7 +223,6 @@ fn refusal_text(why: TurnRefusal) -> &'static str {
     }
 }
 
-/// What a crash is, in words.
 fn crash_text(why: Crash) -> &'static str {
     match why {
         Crash::Memory => "out of memory",

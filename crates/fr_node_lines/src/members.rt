@@ -56,7 +56,6 @@ impl<'t> Members<'t> {
         all.get(at).map(|(_, value)| *value)
     }
 
-    /// Reads a member.
     pub(crate) fn read<T: Formed>(&self, alloc: Global, member: Member) -> Result<T, BadLine> {
         let Some(text) = self.get(member) else {
             return Err(BadLine::Member(member));

@@ -54,7 +54,6 @@ fn split<'t>(
     Ok((envelope, line, body))
 }
 
-/// The text of a line, which is JSON.
 fn json_of(alloc: Global, text: &[u8]) -> Result<&str, BadLine> {
     match read_text(alloc, text, &ANY, &mut Nobody, &mut String::new(alloc)) {
         Ok(()) => std::str::from_utf8(text).or(Err(BadLine::NotJson)),

@@ -1,4 +1,4 @@
--- What a machine of any kind does at a tell that it hears, what it asks, and what a proxy makes of a batch.
+-- The next state of a machine of any kind that hears a reply, its asks, and the outcome of a proxy's batch.
 use Rattle.std.specs.Prelude.{◌≡◌, ◌≢◌, Bool, true, false, IsTrue, ℕ, List, [], ◌∷◌, ◌==◌, ◌%◌, find, Option, None, Some, IsSome}
 use Rattle.fr_base.specs.declared.place.NodeId.{NodeId}
 use Rattle.fr_base.specs.declared.place.NodeId.TheVariants as node

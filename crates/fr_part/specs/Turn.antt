@@ -1,4 +1,4 @@
--- What a machine of any kind is told, and where it then stands. An ask of another kind is told nothing and changes nothing.
+-- The reply of a machine of any kind, and its state then. An ask of another kind has no reply and changes nothing.
 use Rattle.std.specs.Prelude.{Bool, true, false, Option, None, Some}
 use Rattle.fr_register.specs.Cell as cell
 use Rattle.fr_register.specs.CellState.{CellState}

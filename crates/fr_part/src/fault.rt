@@ -50,7 +50,7 @@ pub enum ReadRefusal {
     Memory,
 }
 
-/// What a proxy's fault is to its holder.
+/// The fault of a call that a proxy refused.
 pub(crate) fn of_submit(fault: SubmitFault) -> PartFault
     ensures { result ≡ of_submit fault }
 {

@@ -24,8 +24,8 @@ use fr_undo::MapStore;
 use std::alloc::Global;
 
 impl Part {
-    /// Hears what a node tells. A proxy and a recoverer answer what they newly ask, and a proxy what it says of its
-    /// batch. Out of memory nothing changes, but in a storage server, which may have taken a front of the answer.
+    /// Hears a node's reply. A proxy and a recoverer answer their new asks, and a proxy also its word on its batch. Out
+    /// of memory nothing changes, but in a storage server, which may have taken a front of the records.
     pub fn hear(&mut self, alloc: Global, from: NodeId, tell: Tell) -> Result<Heard, PartFault>
         ensures heard { IfOk result (λ heard. IsHeard self.old from tell heard self.new) }
         ensures err { IfErr result (λ fault. fault ≢ PartOnly → self.new ≡ self.old) }

@@ -3,12 +3,12 @@ use fr_ask::{Ask, Tell};
 use fr_base::NodeId;
 use fr_proxy::Outcome;
 
-/// What comes of a tell that a machine hears.
+/// A machine's answer to a reply that it heard.
 #[derive(Debug, Drop)]
 pub struct Heard {
-    /// What it newly asks: each ask behind the node that is asked.
+    /// Its new asks: each behind the node that is asked.
     pub asks: Vec<(NodeId, Ask)>,
-    /// What a proxy says of its batch; none of other machines.
+    /// A proxy's word on its batch; none of other machines.
     pub outcome: Option<Outcome>,
 }
 

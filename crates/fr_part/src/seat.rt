@@ -51,7 +51,7 @@ impl Seat {
         Ok(())
     }
 
-    /// Hears what a node tells, and keeps what it then asks, as [`Part::hear`] says it.
+    /// Hears a node's reply, and keeps the asks that follow, as [`Part::hear`] answers them.
     pub fn hear(&mut self, alloc: Global, from: NodeId, tell: Tell) -> Result<(), PartFault>
         ensures heard { OnOk result (HearsIn self.old from tell self.new) }
         ensures err { IfErr result (λ fault. fault ≢ PartOnly → self.new ≡ self.old) }

@@ -1,4 +1,4 @@
--- The state of a sequencer, what it answers, and what it is then.
+-- A sequencer: its state, its answer and its next state.
 use Rattle.std.specs.Prelude.{ℕ, ◌+◌, ◌^◌, ◌<◌, ◌⊎◌, IsSome, Bool, false, nat_le, ◌==◌, Option, None, Some, if◌then◌else◌, refl}
 use Rattle.std.specs.Ordering.{nat_cmp}
 use Rattle.std.specs.FinMap.{FinMap, empty, get, insert, code}

@@ -2,7 +2,7 @@
 use crate::number::Place;
 use fr_base::Version;
 
-/// What a tell is to a proxy: what it changes.
+/// The change that a reply makes to a proxy.
 #[derive(Clone, Copy, Debug, PartialEq, Eq)]
 pub enum Heeded {
     /// Nothing.

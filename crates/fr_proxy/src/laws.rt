@@ -18,15 +18,15 @@ pub fn account_law()
     ensures stays { AccountedStays }
 {}
 
-/// What a tell can be to a proxy, and what is pushed then.
+/// The changes that a reply can make to a proxy, and the pushes that follow.
 pub fn heard_law()
     ensures heard { HearIsHeard }
     ensures pushes { NewIsPush }
 {}
 
-/// What holds of a new proxy stays so. An open batch is that of the last request. Each log that holds it
-/// counts once and is one of the generation. No commit above the version before its own is known. So
-/// what is known to be committed never falls.
+/// A new proxy has these properties, and each call keeps them. An open batch is that of the last request. Each log that
+/// holds it counts once and is one of the generation. No commit above the version before its own is known. So `known`
+/// never falls.
 pub fn kept_law()
     ensures new { NewIsProxy }
     ensures submit { SubmitKeeps }
@@ -34,7 +34,7 @@ pub fn kept_law()
     ensures known { KnownRises }
 {}
 
-/// A sequencer stores the last number that it gave to each proxy: what it tells is what it stores.
+/// A sequencer stores the last number that it gave to each proxy: its reply is the stored number.
 pub fn stored_law()
     ensures told { ToldIsStored }
     ensures given { GivenIsStored }

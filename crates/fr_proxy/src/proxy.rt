@@ -139,6 +139,7 @@ impl Proxy {
         ensures fault { IfErr result (λ fault. submit_fault self.old ≡ Some fault) }
         ensures err { OnErr result (self.new ≡ self.old) }
     {
+        // One batch at a time: its request is the only one that the sequencer repeats (invariants 2 and 3).
         if let Some(fault) = self.submit_fault() {
             return Err(fault);
         }

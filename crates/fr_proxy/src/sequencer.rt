@@ -80,6 +80,8 @@ impl Sequencer {
         ensures free { IsAnsweredInPlace self.old (SeqAsk.Next proxy request step) → IsOk result }
     {
         let _ = &self.last;
+        // Before every test, with any step: the request has its number already, and a second one would leave a gap
+        // (invariant 2).
         if let Some(tell) = self.told_again(proxy, request) {
             return Ok(tell);
         }
@@ -111,10 +113,13 @@ impl Sequencer {
         ensures { result ≡ new_refusal self.now (get self.now.given proxy) request step }
     {
         let last_request = self.last_request(proxy);
+        // A difference, because the sum could overflow. A request further on would mean that the proxy had dropped one
+        // (invariant 2).
         let is_next = last_request < request && request - last_request == 1;
         if !is_next {
             return Some(SeqRefusal::OutOfTurn);
         }
+        // Nothing is given then, so the same request can be made again with a smaller step.
         match Version::new(self.last.get() + step.get()) {
             Some(_) => None,
             None => Some(SeqRefusal::Spent),
@@ -146,6 +151,7 @@ impl Sequencer {
     {
         let prev = self.last;
         let version = after(prev, step);
+        // Before the number is counted as given, since only this can run out of memory (invariant 8).
         put(
             &mut self.given,
             proxy,
@@ -198,7 +204,6 @@ fn again(number: Number, request: u64) -> Option<SeqTell>
     }
 }
 
-/// The tell of a number.
 fn told(number: Number) -> SeqTell
     ensures { result ≡ told number }
 {

@@ -75,7 +75,6 @@ impl UnderWay {
         self.held.as_slice().contains(&log)
     }
 
-    /// An equal batch under way.
     pub(crate) fn copy(&self) -> Result<Self, Memory>
         ensures { IfOk result (λ copy. open_of copy ≡ open_of self.now) }
     {

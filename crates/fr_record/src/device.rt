@@ -13,7 +13,7 @@ pub trait Device: Drop {
     ghost use Rattle.std.specs.Prelude.{ℕ};
     ghost use Rattle.fr_record.specs.Disk.{Disk};
 
-    /// What the device holds, and what a crash now may leave of it.
+    /// The bytes of the device, and those that a crash now may leave.
     ghost disk: { Self → Disk };
 
     /// The greatest length that it can have.

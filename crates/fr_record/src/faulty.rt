@@ -58,7 +58,7 @@ impl<D: Device> FaultyDevice<D> {
         self.calls
     }
 
-    /// The device below as it stands, with what its own calls did.
+    /// The device below, as its own calls left it.
     pub fn into_inner(self) -> D
         ensures { result ≡ self.device }
     {

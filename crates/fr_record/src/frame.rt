@@ -13,7 +13,7 @@ pub(crate) struct Frame {
     pub(crate) len: usize,
 }
 
-/// What is written behind the closed gate for one record: its length, its bytes and a closed gate.
+/// The bytes behind the closed gate for one record: its length, its bytes and a closed gate.
 pub(crate) fn behind_gate(alloc: Global, payload: &[u8]) -> Result<Vec<u8>, AllocError>
     requires { length payload.now < 2 ^ 32 }
     ensures { IfOk result (λ bytes. bytes.items ≡ behind (payload.now ∷ [])) }

@@ -1,12 +1,12 @@
 //! Laws over the files of records.
 ghost use Rattle.fr_record.specs.Laws.{OneList, WholeOrNot, RestStands};
 
-/// What a crash leaves of a file. A file stands for one list of records at most. What a crash leaves while a
-/// group is in flight stands for the records before it or for those with the whole of it. A file at rest
-/// stands for its records.
+/// The files that a crash may leave. A file stands for one list of records at most. While a group is in flight, a crash
+/// leaves a file that stands for the records before it, or for those with the whole of it. A file at rest stands for
+/// its records.
 ///
-/// What every call keeps is `IsLeft`, and not one of two lists: closing a torn gate writes one byte, which a crash
-/// may leave as 01, and then the whole group is behind it. This law makes "before or after" of it.
+/// Every call keeps `IsLeft`, and not one of two lists: closing a torn gate writes one byte, which a crash may leave as
+/// 01, and then the whole group is behind it. This law makes "before or after" of it.
 pub fn left_law()
     ensures one_list { OneList }
     ensures whole_or_not { WholeOrNot }

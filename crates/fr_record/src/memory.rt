@@ -10,8 +10,8 @@ use fr_base::Memory;
 use std::alloc::Global;
 use std::marker::Model;
 
-/// A device in memory, which never fails. It takes all its memory when it is made. What a crash leaves
-/// of it is what `crash` makes of it.
+/// A device in memory, which never fails. It takes all its memory when it is made. `crash` makes of it what a crash may
+/// leave.
 #[derive(Drop)]
 pub struct MemoryDevice {
     bytes: Vec<u8>,
@@ -54,8 +54,7 @@ impl MemoryDevice {
         })
     }
 
-    /// A crash, and the device after it: what is not synced holds `fill` in each byte, at the present
-    /// length.
+    /// A crash, and the device after it: bytes that are not synced are `fill`, at the present length.
     pub fn crash(&mut self, fill: u8)
         ensures left { MayLeave (disk_of self.old) self.new.bytes }
         ensures len { length self.new.bytes ≡ length self.old.bytes }

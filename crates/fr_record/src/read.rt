@@ -14,7 +14,7 @@ use crate::parse::parse;
 use fr_base::Bytes;
 use std::alloc::Global;
 
-/// All bytes of a device. It is synced before they are read, so that a later crash leaves what was read.
+/// All bytes of a device. It is synced before they are read, so that a later crash leaves these.
 fn load<D: Device>(alloc: Global, device: &mut D) -> Result<Vec<u8>, RecordFault>
     ensures bytes { IfOk result (λ bytes. bytes.items ≡ (D.disk device.old).content) }
     ensures durable { OnOk result (IsDurable (D.disk device.new)) }

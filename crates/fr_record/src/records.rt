@@ -230,7 +230,8 @@ impl<D: Device> Records<D> {
     }
 
     /// The file that a device holds, whatever a crash made of it. A refusal drops the device. The clause `gone` says
-    /// what a crash may then have left, of a device to which the calls led.
+    /// what a crash may then have left, of a device to which the calls led. It could speak of the device itself if the
+    /// refusal gave that back, but then the faults of every caller would carry a device.
     pub fn open(alloc: Global, device: D) -> Result<Self, RecordFault>
         ensures records { IfOk result (λ file. StandsFor (D.disk device).content file.records) }
         ensures any_moment { IfOk result (λ file. IsOpening D.Led D.disk device file.device) }
@@ -259,8 +260,8 @@ impl<D: Device> Records<D> {
         }
     }
 
-    /// Opens the file again, failed or not: what the device holds then is what the file stands for. If it is refused
-    /// the records stay, and the file stays failed if it was.
+    /// Opens the file again, failed or not: from then on the file stands for the bytes that the device then holds. If
+    /// it is refused the records stay, and the file stays failed if it was.
     pub fn reopen(&mut self, alloc: Global) -> Result<(), RecordFault>
         ensures records { OnOk result (StandsFor (D.disk self.old.device).content self.new.records) }
         ensures works { OnOk result (self.new.is_failed ≡ false) }

@@ -44,7 +44,7 @@ abbrev pub LeadsBack : LogAsk → Type 0
 LeadsBack a = (l : LogState) → IsSoundLog l → replayed replay_log (Some l) (written_log l a) ≡ Some (after_ask l a)
 
 -- what is true of every ask whose records are in a file. They lead a log where the ask does. The ask leaves a log
--- within its limits, which keeps nothing of what it lets go; and it comes to the same to let that go later
+-- within its limits, which keeps nothing of what it lets go; and letting go later gives the same log
 pub record IsFileAsk (a : LogAsk) : Type 0 where
   pub leads : LeadsBack a
   pub sound : (l : LogState) → IsSoundLog l → IsSoundLog (after_ask l a)

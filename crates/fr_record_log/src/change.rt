@@ -1,7 +1,7 @@
-//! What a log does by a record of its file.
+//! A log's change by a record of its file.
 use fr_log::{LogAsk, PoppedTag, SeedRecord};
 
-/// What a log does by a record of its file.
+/// A log's change by a record of its file.
 #[derive(Drop)]
 pub(crate) enum Change {
     /// It takes this ask: a seed without records, a push, a mark or a lock.

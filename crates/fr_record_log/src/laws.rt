@@ -8,8 +8,7 @@ use fr_mutation::spelling_is_read;
 use fr_record_node::laws;
 use fr_state::spelling_law;
 
-/// The records of each ask lead a log to the state to which the ask does, which keeps nothing of
-/// what it lets go.
+/// The records of each ask lead a log where the ask does, to a state without the batches that it lets go.
 pub(crate) fn file_ask_law()
     ensures { AskIsFileAsk }
 {
@@ -39,8 +38,8 @@ pub fn spelled_law()
     file_ask_law();
 }
 
-/// Asks that are served at once do what they do one after another: they have the same records, so that the file has the
-/// same bytes, and are told the same.
+/// Asks that are served at once have the effect of the same asks one after another: the same records, so the file has
+/// the same bytes, and the same replies.
 pub fn several_law()
     ensures written { WrittenApart }
     ensures told { ToldApart }

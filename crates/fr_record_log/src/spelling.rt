@@ -96,7 +96,7 @@ pub(crate) fn put_records(
     Ok(())
 }
 
-/// The record of a seed's record.
+/// The file's record for one record of a seed.
 #[tactic(auto, unfolding(crate::specs::Spelling::spelled_seeded))]
 fn seeded(alloc: Global, record: &SeedRecord) -> Result<Vec<u8>, Memory>
     ensures bytes { IfOk result (λ bytes. bytes.items ≡ spelled_seeded «record».now) }

@@ -116,7 +116,6 @@ fn later_push(alloc: Global, log: &Log, index: usize, numbers: PushNumbers) -> R
     Ok(push_of(epoch, numbers, bodies))
 }
 
-/// The mark of these numbers and this state.
 fn mark_of(
     alloc: Global,
     epoch: Epoch,
@@ -142,7 +141,6 @@ fn mark_of(
     }
 }
 
-/// The push of these numbers and these bodies.
 fn push_of(epoch: Epoch, numbers: PushNumbers, bodies: Vec<Body>) -> Push
     requires push { IsPush
         (record {

@@ -41,11 +41,13 @@ fn ballot(bytes: &[u8], at: usize) -> Option<Ballot>
 fn ballots(change: &[u8]) -> Option<(Ballot, Ballot)>
     ensures { result ≡ ballots_of change.now }
 {
+    // No ask of a cell writes such a record: a value has at most 4,096 bytes (invariant 5).
     if change.len() < FRONT || change.len() > MOST {
         return None;
     }
     let promised = ballot(change, 0)?;
     let written = ballot(change, 8)?;
+    // Another order is no cell's (invariant 1 of fr_register), so such a record is damage (invariant 5).
     if written <= promised {
         Some((promised, written))
     } else {
@@ -53,7 +55,7 @@ fn ballots(change: &[u8]) -> Option<(Ballot, Ballot)>
     }
 }
 
-/// Every cell is within its limits, since what its parts tell of themselves says so.
+/// Every cell is within its limits, since its parts are.
 fn cell_within_limits(cell: &Cell)
     ensures { is_sound cell.now ≡ true }
 {
@@ -61,7 +63,7 @@ fn cell_within_limits(cell: &Cell)
     let _len = cell.value().len();
 }
 
-/// Every ask is, too.
+/// Every ask is within its limits too.
 fn ask_within_limits(ask: &CellAsk)
     ensures { is_cell_ask ask.now ≡ true }
 {
@@ -76,7 +78,6 @@ fn ask_within_limits(ask: &CellAsk)
     }
 }
 
-/// The record of a cell.
 fn spelled(
     alloc: Global,
     promised: Ballot,
@@ -94,7 +95,6 @@ fn spelled(
     Ok(bytes)
 }
 
-/// The cell of these parts.
 fn restored(alloc: Global, promised: Ballot, written: Ballot, value: &[u8]) -> Result<Cell, Memory>
     requires order { written ≤ promised }
     requires short { length value.now ≤ 4096 }

@@ -132,7 +132,8 @@ where
     }
 
     /// Answers asks in order as the plain machine does, with all their records in one group: after a crash all of it
-    /// is there, or nothing. If no ask changes anything, as in an empty list, no call of the device is made. Memory
+    /// is there, or nothing; appended one by one, a part could be. If no ask changes anything, as in an empty list, no
+    /// call of the device is made. Memory
     /// holds the records of all asks at once, and a copy of each ask.
     pub fn serve_all(&mut self, alloc: Global, asks: Vec<M::Ask>) -> Result<Vec<M::Tell>, NodeFault>
         ensures told { IfOk result (λ tells. tells.items ≡ told_all M.after M.told self.old.machine asks.items) }
@@ -159,15 +160,20 @@ where
             ≡ self.new.machine)) self.new.device self.new.device) }
     {
         left_law();
+        // Before anything is taken: the device may hold the asks of the fault, and only `reopen` finds out
+        // (invariant 3).
         if self.file.is_failed() {
             return Err(NodeFault::Failed);
         }
+        // Answered here, since below even an empty list could meet `Memory` (invariant 2).
         if asks.is_empty() {
             return Ok(Vec::new(alloc));
         }
         match put_all(&mut self.file, &mut self.machine, alloc, asks.as_slice()) {
             Ok(tells) => Ok(tells),
             Err(NodeFault::Device) => {
+                // Kept, because a crash may have left their records: `reopen` has to know to which state those lead
+                // (invariant 3).
                 self.held = Some(asks);
                 Err(NodeFault::Device)
             }
@@ -175,7 +181,6 @@ where
         }
     }
 
-    /// A list of one ask.
     fn only(&self, alloc: Global, ask: M::Ask) -> Result<Vec<M::Ask>, NodeFault>
         ensures ok { IfOk result (λ asks. asks.items ≡ ask ∷ []) }
         ensures failed { (result ≡ Err NodeFault.Failed) ↔ IsTrue self.now.is_failed }
@@ -185,6 +190,7 @@ where
             ⊎ (x ≡ M.after self.now.machine ask))) self.now.device self.now.device }
     {
         left_law();
+        // Before the list takes memory, so that a failed node always says `Failed`.
         if self.file.is_failed() {
             return Err(NodeFault::Failed);
         }
@@ -252,6 +258,7 @@ where
         ensures kept { OnOk result (moments.Throughout D.Led D.disk (Opens M.replay (M.fresh self.new.machine) (λ x. x
             ≡ self.new.machine)) self.new.device self.new.device) }
     {
+        // A list of one, so that there is one order of calls: machine, file, reply (invariant 4).
         let asks = match self.only(alloc, ask) {
             Ok(asks) => asks,
             Err(fault) => return Err(fault),
@@ -273,6 +280,7 @@ where
         };
         match reopen_held(&mut self.file, &mut self.machine, alloc, asks.as_slice()) {
             Ok(reopened) => {
+                // Only here: after a refusal the asks are still in doubt, and the next try needs them.
                 self.held = None;
                 Ok(reopened)
             }

@@ -19,7 +19,7 @@ pub trait Recorded: Machine + Drop {
     ghost use Rattle.fr_record_node.specs.Several.{after_all};
     ghost use Rattle.fr_record_node.specs.Replay.{replayed};
 
-    /// A checkpoint: what brings a machine back to its state before some asks.
+    /// A checkpoint, by which a machine goes back to its state before some asks.
     type Place: Drop;
 
     /// This machine as it was before it was asked anything.
@@ -31,7 +31,7 @@ pub trait Recorded: Machine + Drop {
     /// The records of an ask; none if the ask changes nothing.
     ghost written: { Self → Self.Ask → List (List ℕ) };
 
-    /// The machine after an ask, with what the ask lets go.
+    /// The machine after an ask, still with what the ask lets go.
     ghost kept: { Self → Self.Ask → Self };
 
     /// The machine without what its asks let go.
@@ -95,13 +95,12 @@ pub trait Recorded: Machine + Drop {
     /// Nor does a record.
     ghost same_read: { (s n : Self) (change : List ℕ) → replay s change ≡ Some n → fresh n ≡ fresh s };
 
-    /// Asks that were kept, and what they let go let go at their end, lead to the same state as the
-    /// asks.
+    /// Keeping asks and letting go at their end leads to the same state as the asks.
     ghost settles: { (s : Self) (asks : List Self.Ask) → IsSound s → All IsAsk asks → settled (after_all kept s asks) ≡ after_all Self.after s asks };
 
-    /// What asks let go changes nothing of what the next one is told.
+    /// Letting go changes no later reply.
     ghost told_settled: { (s : Self) (a : Self.Ask) → Self.told (settled s) a ≡ Self.told s a };
 
-    /// Nor of its records.
+    /// Nor any later record.
     ghost written_settled: { (s : Self) (a : Self.Ask) → written (settled s) a ≡ written s a };
 }

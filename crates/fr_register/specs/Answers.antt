@@ -8,7 +8,7 @@ use Rattle.fr_register.specs.declared.ask.CellAsk.TheVariants.{Read, Write}
 use Rattle.fr_register.specs.declared.ask.CellTell.{CellTell}
 use Rattle.fr_register.specs.declared.ask.CellTell.TheVariants.{Promise, Written, Refused, TwoValues}
 
--- the ways in which a cell answers an ask, with what it tells and what it is then
+-- the ways in which a cell answers an ask, each with its reply and the next state
 pub data Change (c : CellState) : CellAsk → CellTell → CellState → Type 0 where
   Promises : (b : ℕ) → c.promised ≤ b → Change c (Read b) (Promise c.written c.value) (record { promised = b; written = c.written; value = c.value })
   Takes : (b : ℕ) (x : List ℕ) → c.promised ≤ b → (c.written ≡ b → c.value ≡ x) → Change c (Write b x) (Written b) (record { promised = b; written = b; value = x })

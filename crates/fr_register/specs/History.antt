@@ -1,4 +1,4 @@
--- Histories of the cells: what was delivered to them, and what they told. Each list has the newest turn first.
+-- Histories of the cells: delivered requests and their replies. Each list has the newest turn first.
 use Rattle.std.specs.Prelude.{◌≡◌, ℕ, if◌then◌else◌, ◌==◌, List, [], ◌∷◌, Contains}
 use Rattle.fr_register.specs.CellState.{CellState}
 use Rattle.fr_register.specs.Cell.{answer_of, next_of}

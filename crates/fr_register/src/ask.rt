@@ -1,4 +1,4 @@
-//! What a cell is asked, and what it tells.
+//! The asks of a cell, and its replies.
 ghost use Rattle.std.specs.Prelude.{◌≡◌, IfOk, IsOk};
 ghost use Rattle.fr_register.specs.Cell.{AskHoldsNone, TellHoldsNone};
 ghost use Rattle.fr_register.specs.Same.{is_same_cell_ask, is_same_cell_tell};
@@ -6,10 +6,10 @@ ghost use Rattle.fr_register.specs.Same.{is_same_cell_ask, is_same_cell_tell};
 use crate::value::CellValue;
 use fr_base::{Ballot, Memory};
 
-/// What a cell is asked: the two phases of disk Paxos (Gafni and Lamport, 2003).
+/// A request to a cell: the two phases of disk Paxos (Gafni and Lamport, 2003).
 #[derive(Clone, Debug, Drop, PartialEq, Eq)]
 pub enum CellAsk {
-    /// A read: promise to refuse every lower ballot, and tell what was written last.
+    /// A read: promise to refuse every lower ballot, and tell the last write.
     Read { ballot: Ballot },
     /// A write: hold this value under this ballot.
     Write { ballot: Ballot, value: CellValue },
@@ -32,7 +32,7 @@ impl CellAsk {
     }
 }
 
-/// What a cell tells.
+/// A cell's reply.
 #[derive(Clone, Debug, Drop, PartialEq, Eq)]
 pub enum CellTell {
     /// The read's ballot is promised; `value` was written last, under `written`.

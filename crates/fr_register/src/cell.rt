@@ -48,6 +48,7 @@ impl Cell {
         ensures within { IsSome result ↔ (written ≤ promised) }
         ensures value { IfSome result (λ c. c ≡ record { promised = promised; written = written; value = value }) }
     {
+        // No asks lead to another cell (invariant 1), so other numbers in a file are damage.
         if written <= promised {
             Some(Cell {
                 promised,
@@ -95,11 +96,13 @@ impl Cell {
         ensures within { IsWithinPromise self.new }
         ensures free { IsAnsweredInPlace self.old (CellAsk.Read ballot) → IsOk result }
     {
+        // An equal ballot is promised again, because a repeated read has to be told the same (invariant 3).
         if ballot < self.promised {
             return Ok(CellTell::Refused {
                 promised: self.promised,
             });
         }
+        // Copied before the promise is made: out of memory the cell must stay as it was (invariant 3).
         let value = self.value.copy()?;
         self.promised = ballot;
         Ok(CellTell::Promise {
@@ -114,13 +117,16 @@ impl Cell {
         ensures within { IsWithinPromise self.new }
     {
         let promised = self.promised;
+        // Only below: the promised ballot itself is the one that is expected to write.
         if ballot < promised {
             return CellTell::Refused { promised };
         }
+        // The same value again is a repeat. Another one would be a second state under one ballot (invariant 2).
         if self.written == ballot && self.value != value {
             return CellTell::TwoValues;
         }
         *self = Cell {
+            // A write is a promise too, for a cell that its read never reached (invariant 1).
             promised: ballot,
             written: ballot,
             value,

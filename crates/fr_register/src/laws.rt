@@ -28,8 +28,8 @@ pub fn answer_law()
     ensures turns { TurnsAreAnswered }
 {}
 
-/// Whatever tells a tally hears in whatever order: its answer is what the first tell that refuses or
-/// brings the majority makes of it, and its greatest pair is that of all promises that count.
+/// In whatever order a tally hears replies, its answer is fixed by the first reply that refuses or brings the majority,
+/// and its greatest pair is that of all promises that count.
 pub fn tally_law()
     ensures read { ReadAnswersFirst }
     ensures greatest { ReadHasGreatest }
@@ -53,10 +53,9 @@ pub fn faithful_law()
     ensures write { FaithfulWriteIsWritten }
 {}
 
-/// What is written after a choice descends from it: over every list of deliveries to the cells, with
-/// losses, repeats and crashes, in which each ballot writes one value, made from its own read
-/// majority's greatest pair. It is the promise of disk Paxos (Gafni and Lamport, 2003), for values that
-/// each come from another.
+/// Every write after a choice descends from the chosen value: over every list of deliveries to the cells, with losses,
+/// repeats and crashes, in which each ballot writes one value, made from its own read majority's greatest pair. It is
+/// the promise of disk Paxos (Gafni and Lamport, 2003), for values that each come from another.
 pub fn register_law()
     ensures descends { LaterInListDescends }
     ensures ready { ReadyInListDescends }
@@ -69,8 +68,8 @@ pub fn register_law()
     ensures makings { OnlyWritersMatter }
 {}
 
-/// The same over what each ballot has read, whenever it was told: if the greatest pair of each
-/// ballot's read majority is of a lower ballot, what is written after a choice descends from it.
+/// The same from the reads of each ballot, whenever their replies came: if the greatest pair of each ballot's read
+/// majority is of a lower ballot, every write after a choice descends from it.
 pub fn parent_law()
     ensures descends { LaterDescends }
     ensures ready { ReadyDescends }

@@ -65,10 +65,12 @@ impl CellPoll {
         ensures { result ≡ progress_of self.now }
     {
         match self.refusal {
+            // A refusal is kept only if it came before the majority, so it is the answer (invariant 6).
             Some(refusal) => Progress::Lost {
                 promised: refusal.promised,
             },
             None => {
+                // More than half, also of an even number: two halves need not share a cell (invariant 5).
                 if usize::from(self.cells) / 2 < self.heard.len() {
                     Progress::Majority
                 } else {
@@ -92,6 +94,7 @@ impl CellPoll {
     pub fn wants(&self, index: u8) -> bool
         ensures { result ≡ is_wanted self.now index }
     {
+        // Each cell once, the one that refused too: otherwise repeats of one reply would make a majority (invariant 4).
         index < self.cells && !self.has_heard(index)
     }
 
@@ -115,6 +118,7 @@ impl CellPoll {
     pub fn refuse(&mut self, index: u8, promised: Ballot)
         ensures { self.new ≡ with_refusal self.old index promised }
     {
+        // A majority stays the answer: it showed what it showed, whoever refuses later (invariant 6).
         if self.progress() == Progress::Waiting {
             self.refusal = Some(Refusal { index, promised });
         }

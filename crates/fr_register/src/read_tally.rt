@@ -9,7 +9,8 @@ use fr_base::{Ballot, Memory};
 use std::alloc::Global;
 use std::marker::Model;
 
-/// A tally of the promises to the reads of one ballot. What it answered stays, and it goes on hearing.
+/// A tally of the promises to the reads of one ballot. What it answered stays, and it goes on hearing: a promise after
+/// the majority still counts in the greatest pair, so that `tally_law` is one sentence over the whole list of replies.
 #[derive(Clone, Debug, Drop)]
 pub struct ReadTally {
     ballot: Ballot,
@@ -58,8 +59,11 @@ impl ReadTally {
         if self.poll.wants(index) {
             match tell {
                 CellTell::Promise { written, value } => {
+                    // The first counts even at ballot 0. Of two with one ballot the first stays, since both have the
+                    // same value (invariant 2).
                     let is_first_or_greater = self.poll.is_silent()
                         || self.greatest_ballot < written;
+                    // The only step that can run out of memory, so it comes before the pair is changed.
                     self.poll.add(index)?;
                     if is_first_or_greater {
                         self.greatest_ballot = written;
@@ -68,6 +72,7 @@ impl ReadTally {
                 }
                 CellTell::Written { .. } => {}
                 CellTell::Refused { promised } => self.poll.refuse(index, promised),
+                // The cell names no ballot here. It was asked for this one.
                 CellTell::TwoValues => self.poll.refuse(index, self.ballot),
             }
         }

@@ -39,7 +39,7 @@ impl CellValue {
         }
     }
 
-    /// No bytes, which is what a fresh cell holds. It takes no memory.
+    /// No bytes, the value of a fresh cell. It takes no memory.
     pub fn empty(alloc: Global) -> Self
         ensures { result ≡ [] }
     {

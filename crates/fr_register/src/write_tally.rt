@@ -8,7 +8,7 @@ use fr_base::{Ballot, Memory};
 use std::alloc::Global;
 use std::marker::Model;
 
-/// A tally of the cells that hold the write of one ballot. What it answered stays.
+/// A tally of the cells that hold the write of one ballot. Its answer stays.
 #[derive(Clone, Debug, Drop)]
 pub struct WriteTally {
     ballot: Ballot,
@@ -47,11 +47,14 @@ impl WriteTally {
             match tell {
                 CellTell::Promise { .. } => {}
                 CellTell::Written { ballot } => {
+                    // A late reply to another ballot's write says nothing of this one.
                     if ballot == self.ballot {
                         self.poll.add(index)?;
                     }
                 }
                 CellTell::Refused { promised } => self.poll.refuse(index, promised),
+                // The cell names no ballot here: its other value is under the tally's own, so that is what the writer
+                // lost against.
                 CellTell::TwoValues => self.poll.refuse(index, self.ballot),
             }
         }

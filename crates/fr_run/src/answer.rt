@@ -1,4 +1,4 @@
-//! What an event answers.
+//! The answer to an event.
 ghost use Rattle.std.specs.Prelude.{◌≡◌, IfOk};
 
 use fr_ask::Tell;
@@ -6,14 +6,14 @@ use fr_base::Memory;
 use fr_proxy::Outcome;
 use fr_storage::StorageFault;
 
-/// What an event answers.
+/// The answer to an event.
 #[derive(Debug, Drop)]
 pub enum Answer {
-    /// What the node told to which an ask was delivered.
+    /// The reply of the node to which an ask was delivered.
     Told(Tell),
-    /// What a proxy says of its batch.
+    /// A proxy's word on its batch.
     Heard(Outcome),
-    /// Why a storage server did not take what it heard.
+    /// Why a storage server refused a reply.
     Refused(StorageFault),
     /// It happened, and there is nothing to tell.
     Done,

@@ -6,7 +6,7 @@ use fr_ask::{Ask, Tell};
 use fr_base::{Ballot, Epoch, LogId, Memory, NodeId, Shape, Step, Version};
 use fr_mutation::Batch;
 
-/// What may happen in a world: one event is one turn of one node.
+/// The events of a world: each is one turn of one node.
 #[derive(Debug, Drop)]
 pub enum Event {
     /// The recoverer of a ballot begins, to open a generation of this shape, or if none is given one of the shape

@@ -57,7 +57,7 @@ pub fn ask_law()
     node_laws();
 }
 
-/// What cells hold, and what their promises are worth.
+/// The contents of cells, and the worth of their promises.
 pub fn cells_law()
     ensures history { CellsHaveHistory }
     ensures order { CellsAreOrdered }
@@ -67,8 +67,7 @@ pub fn cells_law()
     node_laws();
 }
 
-/// What a recoverer reads is the greatest pair of its read majority, and what is written after a choice
-/// descends from it.
+/// A recoverer's read is the greatest pair of its read majority, and every write after a choice descends from it.
 pub fn parents_law()
     ensures greatest { ParentIsGreatest }
     ensures read { ParentIsRead }
@@ -104,9 +103,9 @@ pub fn chosen_law()
     node_laws();
 }
 
-/// What a recoverer took over is the state of the epoch that it ends: the first, or one that a lower ballot planned and
-/// might write. The line of its own plan is that epoch's, with one generation more. The state of an epoch is what is
-/// left of its line without the generations that were dropped, and along a line no fewer are dropped later.
+/// A recoverer takes over the state of the epoch that it ends: the first, or one that a lower ballot planned and might
+/// write. The line of its own plan is that epoch's, with one generation more. The state of an epoch is its line without
+/// the dropped generations, and later states on a line dropped at least as many.
 pub fn line_law()
     ensures parent { ParentIsOfEpoch }
     ensures planned { ParentIsPlanned }

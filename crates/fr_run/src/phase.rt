@@ -45,7 +45,6 @@ pub fn why_name(why: LostWhy) -> &'static str
     }
 }
 
-/// A text as bytes.
 fn spelled(alloc: Global, text: &str) -> Result<Bytes, Memory>
     ensures { IfOk result (λ bytes. bytes ≡ text.now) }
 {

@@ -12,8 +12,9 @@ use fr_storage::{Storage, StorageFault, take_marked, take_peeked};
 use fr_undo::ShardStore;
 use std::alloc::Global;
 
-/// Tells a storage server what a node told it: at which version the hear broke off, if a call of its store failed in
-/// it and a part of it is missing. What it refuses changes nothing. A store that cannot be opened again is a fault.
+/// Hands a node's reply to a storage server. Answers the version at which the hear broke off, if a call of its store
+/// failed in it and a part of it is missing. A refused reply changes nothing. A store that cannot be opened again is a
+/// fault.
 pub fn take_told<S: ShardStore>(
     alloc: Global,
     storage: &mut Storage<S>,
@@ -36,7 +37,7 @@ pub fn take_told<S: ShardStore>(
     }
 }
 
-/// Tells a storage server what a log of an epoch has of its tag, as [`take_peeked`] does.
+/// Hands a storage server a log's records of its tag, as [`take_peeked`] does.
 fn peeked_by<S: ShardStore>(
     alloc: Global,
     storage: &mut Storage<S>,

@@ -36,9 +36,9 @@ pub fn issued_law()
     lower_laws();
 }
 
-/// Each seeded log has exactly its tags' parts of what its epoch issues, through its durable version. Of these, once
-/// it let go of what it may, it has what is above the version that is popped of the tag. Each answer to a peek is
-/// such a part, and so is what each recoverer copied.
+/// Each seeded log has exactly its tags' parts of its epoch's issued entries, through its durable version. Once popped
+/// batches are freed, it has of these the entries above the popped version of each tag. Each answer to a peek is such a
+/// part, and so is each recoverer's copy.
 pub fn contents_law()
     ensures logs { LogsHaveParts }
     ensures left { LogsHaveLeft }

@@ -25,7 +25,7 @@ use fr_tags::laws::{cover_law, shard_fold_law, split_law};
 use fr_tail::laws::copy_law;
 use fr_undo::inverse_law;
 
-/// The laws of what logs hold.
+/// The laws of the contents of logs.
 fn contents_laws()
     ensures { contents.Laws }
 {
@@ -88,10 +88,10 @@ pub fn follow_law()
     lower_laws();
 }
 
-/// No log has let go, of a tag, of more than the tag's storage server has for good. Of the generations that an
-/// epoch's state still shows the first one is in the line of each storage server, which has all that those before it
-/// numbered. So no server is ever told that what it asks for is removed, nor handed a state that dropped all of its
-/// generations; and no recoverer would be told so of what it copies.
+/// No log has freed records of a tag that the tag's storage server does not have durably. The first generation that an
+/// epoch's state still shows is in the line of each storage server, which has all that those before it numbered. So no
+/// server is ever refused a record as removed, nor handed a state that dropped all of its generations; and no
+/// recoverer's copy is refused so.
 pub fn let_go_law()
     ensures popped { PoppedIsSafe }
     ensures visible { VisibleIsSafe }
@@ -114,9 +114,9 @@ pub fn committed_law()
     lower_laws();
 }
 
-/// What a log knows, what was acknowledged and the floor of a storage server are not above the cut of their epoch in
-/// any state that goes on from it. Nor is the floor above the recovery version of any later epoch or recoverer. Logs
-/// hold pushes of chosen epochs alone, and no recoverer finds its replies at odds.
+/// A log's `known`, acknowledged versions and the floor of a storage server are not above the cut of their epoch in any
+/// state that goes on from it. Nor is the floor above the recovery version of any later epoch or recoverer. Logs hold
+/// pushes of chosen epochs alone, and no recoverer finds its replies at odds.
 pub fn order_law()
     ensures known { KnownIsNeverCut }
     ensures acknowledged { AcknowledgedIsNeverCut }

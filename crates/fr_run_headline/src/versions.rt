@@ -42,7 +42,7 @@ pub fn logs_law()
     node_laws();
 }
 
-/// What a log told at a lock is so for good, and what a recoverer heard of it.
+/// A log's reply to a lock stays true, and so does what a recoverer heard of it.
 pub fn locks_law()
     ensures told { LockedStandsStill }
     ensures replies { RepliesStandStill }
@@ -52,9 +52,9 @@ pub fn locks_law()
     node_laws();
 }
 
-/// What a log told at a lock to be popped is, and so is what a recoverer was shown. If a plan drops generations, the
-/// first one that it leaves starts, for each tag, at most one version above what a log of the epoch that it ends has
-/// popped.
+/// A log's popped versions in its reply to a lock are popped, and so are those that a recoverer was shown. If a plan
+/// drops generations, the first one that it leaves starts, for each tag, at most one version above what a log of the
+/// epoch that it ends has popped.
 pub fn shown_law()
     ensures told { LockedIsPopped }
     ensures shown { ShownIsPopped }
@@ -63,7 +63,7 @@ pub fn shown_law()
     node_laws();
 }
 
-/// The end of an epoch is that of the replies to its locks, and what is taken over was numbered.
+/// The end of an epoch is that of the replies to its locks, and the versions that are taken over were numbered.
 pub fn ends_law()
     ensures end { EndIsOfReplies }
     ensures reached { SeedIsReached }
@@ -71,7 +71,7 @@ pub fn ends_law()
     node_laws();
 }
 
-/// What each proxy has under way, and what it pushed.
+/// Each proxy's batch in flight, and its pushes.
 pub fn proxies_law()
     ensures numbers { NumbersAreOwn }
     ensures counted { NumbersAreCounted }
@@ -81,8 +81,8 @@ pub fn proxies_law()
     node_laws();
 }
 
-/// What a log told is so: that it holds a push, that it is seeded, and what its mark is, the state of an epoch
-/// that is chosen. Records that it told were asked for, and those told to a storage server are of its own tag.
+/// A log's replies are true: that it holds a push, that it is seeded, and which mark it has, the state of an epoch that
+/// is chosen. Records in replies were asked for, and those that went to a storage server are of its own tag.
 pub fn told_law()
     ensures held { HeldIsThere }
     ensures seeded { SeededIsSeeded }
@@ -94,7 +94,8 @@ pub fn told_law()
     node_laws();
 }
 
-/// What is acknowledged or known in an epoch has been reached by each of its logs, or is below its first version.
+/// Each version that is acknowledged or known in an epoch was reached by each of its logs, or is below its first
+/// version.
 pub fn known_law()
     ensures acknowledged { AcknowledgedIsSafe }
     ensures proxies { ProxyKnownIsBelow }
@@ -105,7 +106,7 @@ pub fn known_law()
     node_laws();
 }
 
-/// What is known in an epoch is held by each of its seeded logs, and is taken over by each plan over it.
+/// The versions known in an epoch are held by each of its seeded logs, and taken over by each plan over it.
 pub fn order_law()
     ensures durable { KnownIsDurable }
     ensures replies { RepliesAgree }
@@ -158,9 +159,9 @@ pub fn below_law()
     node_laws();
 }
 
-/// Each log that replied to a recoverer holds what is below in any chosen epoch of a lower ballot, and what was
-/// acknowledged in any. So it is at most the recovery version of each later epoch, and of each later recoverer whose
-/// replies cover, also of one that they leave lost.
+/// Each log that replied to a recoverer holds every version that is below in a chosen epoch of a lower ballot, and
+/// every acknowledged one. So these are at most the recovery version of each later epoch, and of each later recoverer
+/// whose replies cover, also of one that they leave lost.
 pub fn replied_law()
     ensures below { BelowIsReplied }
     ensures below_over { BelowIsRecovered }

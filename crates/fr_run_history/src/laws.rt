@@ -30,10 +30,10 @@ pub fn real_time_law()
     read_law();
 }
 
-/// What clients see of a run is strictly serializable. There is one list of the batches, in the order of versions, of
-/// which each acknowledged one is at one place. A read at a settled version sees exactly the batches through it. What
-/// ended before another operation began is before it in this order: a write ends with its acknowledgement, and a query,
-/// which reads at or above the version of a request of its own, with its answer.
+/// Every history that clients see of a run is strictly serializable. There is one list of the batches, in the order of
+/// versions, of which each acknowledged one is at one place. A read at a settled version sees exactly the batches
+/// through it. An operation that ended before another one began is before it in this order: a write ends with its
+/// acknowledgement, and a query, which reads at or above the version of a request of its own, with its answer.
 pub fn history_law()
     ensures { HistoriesAreSerializable }
 {
@@ -45,7 +45,7 @@ pub fn history_law()
 
 /// Every history of clients is one of an abstract machine: a list of batches that grows at its end alone, and for each
 /// storage server the version through which the list is settled there. Each turn of the nodes is some steps of the
-/// machine, and what clients see of the turn, or of a read, is what they see of these steps.
+/// machine, and clients see of the turn, or of a read, what they see of these steps.
 pub fn machine_law()
     ensures { HistoriesAreOfMachine }
 {

@@ -1,4 +1,4 @@
-//! Laws of what comes of batches and of recoveries.
+//! Laws of the outcomes of batches and of recoveries.
 ghost use Rattle.fr_run_outcomes.specs.Lost.{LostOnlySo, NoCellHasTwoValues};
 ghost use Rattle.fr_run_outcomes.specs.Once.{AcknowledgedIsAnswered, AnsweredExactlyOnce, CommittedAtMostOnce};
 ghost use Rattle.fr_run_outcomes.specs.Once.{CommittedWasSubmitted, RequestHasOneNumber};
@@ -26,9 +26,9 @@ pub fn once_law()
     headline_law();
 }
 
-/// A recoverer that is lost is so because a cell promised a greater ballot, because there are as many generations as a list
-/// has room for, or because there is no version left. No cell ever finds two values for one ballot; what the cells hold is
-/// always a state; and what a recoverer would open is always later than what it read.
+/// A recoverer is lost only because a cell promised a greater ballot, because the list has no room for a further
+/// generation, or because there is no version left. No cell ever finds two values for one ballot; cells always hold a
+/// state; and the generation that a recoverer would open is always later than those that it read.
 pub fn lost_law()
     ensures two { NoCellHasTwoValues }
     ensures only { LostOnlySo }

@@ -11,8 +11,8 @@ use fr_run_headline::laws::{agree_law, committed_law, lower_laws};
 use fr_run_headline::versions::{below_law, logs_law, order_law, seeded_law, sent_law};
 use fr_tags::laws::cover_law;
 
-/// A log that lets go what is popped is, after the asks of a run, the log of the laws without what that may let go; so it
-/// tells the same, whatever it is asked.
+/// A log that frees popped batches is, after the asks of a run, the log of the laws without these batches; so it gives
+/// the same replies to all asks.
 pub fn serving_law()
     ensures swept { ServingIsSwept }
     ensures tells { ServingTells }
@@ -43,8 +43,9 @@ pub fn loss_law()
 }
 
 /// Take a committed version from a storage server's floor through the version applied, not above the cut of the
-/// server's own epoch. What the server has there, once all that is above is undone, is its shard of the committed map
-/// at that version. The floor is such a version. Each stays one, with the same contents, until the floor passes it.
+/// server's own epoch in the latest line: a later epoch may have numbered versions above that cut with other batches.
+/// What the server has there, once all that is above is undone, is its shard of the committed map at that version. The
+/// floor is such a version. Each stays one, with the same contents, until the floor passes it.
 pub fn snapshot_law()
     ensures snapshot { SettledIsSnapshot }
     ensures floor { FloorIsSettled }
@@ -57,9 +58,9 @@ pub fn snapshot_law()
     committed_law();
 }
 
-/// What `Storage::read` answers at such a version, for a key of the tag's shard, is the committed map's value of the
-/// key at that version. It answers so at each later moment, until the floor passes the version: recoveries, rollbacks
-/// and losses of logs change neither what is committed there nor that the version is settled.
+/// `Storage::read` answers at such a version, for a key of the tag's shard, the committed map's value of the key at
+/// that version. It does so at each later moment, until the floor passes the version: recoveries, rollbacks and losses
+/// of logs change neither the committed map there nor that the version is settled.
 pub fn read_law()
     ensures committed { ReadIsCommitted }
     ensures stays { ReadStays }

@@ -26,7 +26,7 @@ abbrev pub pull_jobs : {W T : Type 0} → List T → List (Job W T)
 pull_jobs [] = []
 pull_jobs (t ∷ ts) = Pull t ∷ pull_jobs ts
 
--- what threads hand back: the journals, the workloads and what each workload was told
+-- the threads' results: the journals, the workloads and the outcomes that each workload received
 
 abbrev pub journals_of : {W : Type 0} → Done W → List JournalState
 journals_of (Served work journals kept told) = journals.items

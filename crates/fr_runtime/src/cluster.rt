@@ -24,7 +24,8 @@ use std::alloc::Global;
 use std::sync::Wait;
 use std::thread::Threads;
 
-/// What a cluster did: the journals of its nodes, the world that they are a run of, and what each workload was told.
+/// The result of a cluster: the journals of its nodes, the world that they are a run of, and the outcomes that each
+/// workload received.
 #[derive(Drop)]
 pub struct Report {
     pub journals: Vec<Journal>,
@@ -106,7 +107,7 @@ impl Cluster<'_> {
     }
 }
 
-/// Runs the threads of a cluster, and gathers what they and the nodes that they shared hand back.
+/// Runs the threads of a cluster, and gathers their results and those of the nodes that they shared.
 fn handed_back<
     'a,
     K: Rack + Sync + Drop,
@@ -143,8 +144,7 @@ fn handed_back<
     Ok(Gathered::new(alloc, journals, done)?)
 }
 
-/// What journals come to, which are audited. A node of the start that has no journal, or a node that has two, is found
-/// first.
+/// The result of an audit of journals. A node of the start that has no journal, or a node that has two, is found first.
 fn audited_report(
     alloc: Global,
     config: Config,

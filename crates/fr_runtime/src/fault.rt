@@ -40,7 +40,7 @@ pub(crate) enum Unfinished {
 }
 
 impl Unfinished {
-    /// What the caller of a run is told of it.
+    /// The fault that the caller of a run gets.
     pub(crate) fn fault(self) -> RunFault
         ensures value { result ≡ run_fault self }
         ensures plain { is_audit result ≡ false }

@@ -9,7 +9,7 @@ use fr_base::Memory;
 use fr_proxy::Outcome;
 use std::alloc::Global;
 
-/// The journals of all nodes, what each workload was told, and the workloads.
+/// The journals of all nodes, the outcomes that each workload received, and the workloads.
 #[derive(Drop)]
 pub(crate) struct Gathered<W> {
     pub(crate) journals: Vec<Journal>,
@@ -18,7 +18,7 @@ pub(crate) struct Gathered<W> {
 }
 
 impl<W: Drop> Gathered<W> {
-    /// What the threads handed back, behind the journals of the nodes that they shared.
+    /// The results of the threads, behind the journals of the nodes that they shared.
     pub(crate) fn new(
         alloc: Global,
         journals: Vec<Journal>,
@@ -41,7 +41,7 @@ impl<W: Drop> Gathered<W> {
         Ok(all)
     }
 
-    /// Puts what a thread handed back to the rest.
+    /// Puts a thread's result to the rest.
     fn add(&mut self, done: Done<W>) -> Result<(), Memory>
         ensures journals { OnOk result (self.new.journals.items ≡ self.old.journals.items ++ journals_of done) }
         ensures told { OnOk result (self.new.told.items ≡ self.old.told.items ++ told_of done) }

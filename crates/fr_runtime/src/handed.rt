@@ -16,6 +16,7 @@ pub(crate) fn unlike(config: &Config, journals: &[Journal]) -> Option<NodeId>
     ensures some { IfSome result (IsUnlike config.now journals.now) }
 {
     let epoch = first_epoch();
+    // In the order of the kinds of nodes, so that the same journals have the same fault each time.
     if let Some(index) = cell_without(config, journals) {
         return Some(NodeId::Cell { index });
     }

@@ -23,7 +23,7 @@ use std::alloc::Global;
 use std::sync::Wait;
 use std::thread::Threads;
 
-/// What one thread does.
+/// The work of one thread.
 #[derive(Drop)]
 pub(crate) enum Job<W, T> {
     /// It hands the batches of a workload to the proxies of a number.
@@ -44,10 +44,10 @@ pub(crate) enum Job<W, T> {
     Crash,
 }
 
-/// What one thread hands back.
+/// The result of one thread.
 #[derive(Drop)]
 pub(crate) enum Done<W> {
-    /// A workload, the journals of its proxies, the batch that none of them took, and what the workload was told.
+    /// A workload, the journals of its proxies, the batch that none of them took, and the outcomes that it received.
     Served {
         work: W,
         journals: Vec<Journal>,
@@ -62,7 +62,7 @@ pub(crate) enum Done<W> {
     Nothing,
 }
 
-/// What the threads do: one for each workload, each ballot and each storage server, and one for the crashes.
+/// The work of all threads: one for each workload, each ballot and each storage server, and one for the crashes.
 fn jobs<W: Drop, T: Drop>(
     alloc: Global,
     workloads: Vec<W>,
@@ -92,7 +92,6 @@ fn add_serving<W: Drop, T: Drop>(all: &mut Vec<Job<W, T>>, workloads: Vec<W>) ->
     Ok(())
 }
 
-/// Adds a job for each ballot.
 fn add_recovering<W: Drop, T: Drop>(
     all: &mut Vec<Job<W, T>>,
     ballots: &[(Ballot, Option<Shape>)],
@@ -106,7 +105,6 @@ fn add_recovering<W: Drop, T: Drop>(
     Ok(())
 }
 
-/// Adds a job for each storage server.
 fn add_pulling<W: Drop, T: Drop>(all: &mut Vec<Job<W, T>>, stores: Vec<T>) -> Result<(), Memory>
     ensures { OnOk result (all.new.items ≡ all.old.items ++ pull_jobs stores.items) }
 {
@@ -125,6 +123,7 @@ fn serve_at<K: Rack, F: Faults, R: Wait, W: Workload + Drop>(
 ) -> Result<Done<W>, TurnFault>
     ensures { IfOk result (λ done. DidServe W.given W.heard number work done) }
 {
+    // A workload without a proxy is handed back as it came, because its batches are the caller's.
     let Ok(proxy) = u8::try_from(number) else {
         return Ok(Done::Served {
             work,
@@ -148,7 +147,6 @@ fn serve_at<K: Rack, F: Faults, R: Wait, W: Workload + Drop>(
     })
 }
 
-/// Does what one thread does.
 fn work_at<K: Rack, F: Faults, R: Wait, S: ShardStore + Drop, W: Workload + Drop>(
     site: &Site<'_, K, F, R>,
     turns: u32,
@@ -173,7 +171,7 @@ fn work_at<K: Rack, F: Faults, R: Wait, S: ShardStore + Drop, W: Workload + Drop
     }
 }
 
-/// Runs the threads to their ends: what each hands back, in their order. None begins before all are there.
+/// Runs the threads to their ends: the result of each, in their order. None begins before all are there.
 fn run_jobs<
     C: Node<Plain = Cell> + Send + Drop,
     L: Node<Plain = Log> + Send + Drop,
@@ -208,7 +206,7 @@ fn run_jobs<
     work_each(site.rt, site.alloc, jobs, &one)
 }
 
-/// What threads handed back, if none has a fault.
+/// The results of threads, if none has a fault.
 fn without_fault<W: Drop>(
     alloc: Global,
     threads: Vec<Result<Done<W>, TurnFault>>,

@@ -9,7 +9,7 @@ use fr_runtime_threads::{Order, Workload, batch_of_one};
 use std::alloc::Global;
 
 /// Batches of one set each, with a step of 1: batch j, from 0, sets the key of two bytes, 8 (j mod the number of
-/// shards) and the workload's number, to j as four bytes. It keeps what it gave and what it was told.
+/// shards) and the workload's number, to j as four bytes. It keeps its batches and their outcomes.
 #[derive(Drop)]
 pub struct Orders {
     alloc: Global,
@@ -57,11 +57,11 @@ impl Orders {
     fn begin(&self) -> u8
         ensures { result ≡ begin_of self.now.shards self.now.next }
     {
+        // Without shards there is no remainder; then all batches go to the first shard.
         let shard = self.next.checked_rem(u32::from(self.shards)).unwrap_or(0);
         ((shard % 32) * 8) as u8
     }
 
-    /// The next batch.
     fn batch(&self) -> Result<Batch, Memory>
         ensures { IfOk result (λ batch. batch ≡ (order_of self.now.number self.now.shards self.now.next).batch) }
     {
@@ -100,6 +100,7 @@ impl Workload for Orders {
             step,
             batch: batch.copy()?,
         };
+        // Before the batch is handed out: `given` has every batch that a proxy may have taken.
         self.given.reserve(1)?;
         self.given.push_reserved(order);
         self.next += 1;

@@ -37,7 +37,7 @@ where
     Ok(node)
 }
 
-/// What has a cell hold the first state.
+/// The write by which a cell holds the first state.
 fn first_write(alloc: Global, state: &CoordState) -> Result<CellAsk, Memory> {
     let ballot = first_epoch().ballot();
     let Some(value) = CellValue::new(encode(alloc, state)?) else {
@@ -46,7 +46,7 @@ fn first_write(alloc: Global, state: &CoordState) -> Result<CellAsk, Memory> {
     Ok(CellAsk::Write { ballot, value })
 }
 
-/// What seeds a log of the first epoch with nothing.
+/// The seed of a log of the first epoch, without records.
 fn first_seed(alloc: Global) -> LogAsk {
     let epoch = first_epoch();
     match Seed::new(epoch, version_one(), Version::ZERO, Vec::new(alloc)) {
@@ -55,7 +55,7 @@ fn first_seed(alloc: Global) -> LogAsk {
     }
 }
 
-/// What has a log of the first epoch hold the mark at version 1.
+/// The push by which a log of the first epoch holds the mark at version 1.
 fn first_mark(alloc: Global, state: &CoordState) -> Result<LogAsk, Memory> {
     let epoch = first_epoch();
     match Push::mark(alloc, epoch, Version::ZERO, Version::ZERO, state.copy()?) {

@@ -30,12 +30,12 @@ impl From<AllocError> for SpawnFault {
     }
 }
 
-/// What threads do with jobs of a type, and hand back.
+/// The work of threads on jobs of a type, and their results.
 trait Worker<J, D> {
     /// The jobs that may be done.
     ghost Takes: { Self → J → Type 0 };
 
-    /// What is done of a job.
+    /// The result of a job.
     ghost Did: { Self → J → D → Type 0 };
 
     /// Does a job.
@@ -60,7 +60,7 @@ impl<J, D, F: Fn(J) -> D> Worker<J, D> for Call<'_, F> {
     }
 }
 
-/// What a thread promises: that it hands nothing back, since it was called off, or what is done of its job.
+/// A thread's promise: to hand back nothing, if it was called off, or else the result of its job.
 #[derive(Drop)]
 struct Sworn<W, J> {
     worker: Snapshot<W>,
@@ -114,8 +114,8 @@ fn start<
     }
 }
 
-/// Starts a thread for each job, and lets them begin once all are there. If one is refused, those that are there are
-/// called off.
+/// Starts a thread for each job, and lets them begin once all are there: otherwise those that pull could use up their
+/// turns before the first commit. If one is refused, those that are there are called off.
 fn start_each<
     's,
     R: Threads + Wait + Sync + 's,
@@ -144,7 +144,7 @@ fn start_each<
     Ok(handles)
 }
 
-/// Waits for each thread, and gives what they hand back.
+/// Waits for each thread, and gives their results.
 fn join_each<R: Threads, J: Drop, D: Drop, W: Worker<J, D>>(
     rt: &R,
     alloc: Global,
@@ -172,7 +172,7 @@ fn put<T: Drop>(all: &mut Vec<T>, item: T) -> Result<(), SpawnFault>
     Ok(())
 }
 
-/// Has a worker do each job in a thread of its own, and gives what the threads hand back.
+/// Has a worker do each job in a thread of its own, and gives the threads' results.
 fn work_in_threads<
     R: Threads + Wait + Sync,
     J: Send + Drop,

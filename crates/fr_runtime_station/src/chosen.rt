@@ -5,7 +5,7 @@ ghost use Rattle.fr_runtime_station.specs.Chosen.{later_of};
 use fr_base::Stamp;
 use fr_state::Generation;
 
-/// The stamp of what is there from the start.
+/// The stamp of the nodes that are there from the start.
 pub fn first_stamp() -> Stamp
     ensures { result ≡ 0 }
 {

@@ -195,10 +195,10 @@ impl<C: Node<Plain = Cell> + Drop, L: Node<Plain = Log> + Drop> Directory<C, L> 
         }
     }
 
-    /// Asks a node, for a caller at this stamp, if the node is there and the ask is one of its kind. The answer's
-    /// stamp is above the caller's and above the one from which on the node is there. What is told is what such a
-    /// node tells of the ask in some state. A fault says that the ask is of another kind, that the node is not there,
-    /// or why the node that was called refused. What is answered and what is left are those of one [`Station::call`].
+    /// Asks a node, for a caller at this stamp, if the node is there and the ask is one of its kind. The answer's stamp
+    /// is above the caller's and above the one from which on the node is there. The reply is one that such a node gives
+    /// to the ask in some state. A fault says that the ask is of another kind, that the node is not there, or why the
+    /// node that was called refused. Answer and effect are those of one [`Station::call`].
     pub fn call<R: Wait>(
         &self,
         rt: &R,

@@ -9,24 +9,24 @@ use crate::chosen::Chosen;
 use fr_ask::Ask;
 use fr_base::{Ballot, LogId, NodeId, Tag};
 
-/// What happens to an ask on its way.
+/// The fate of an ask on its way.
 #[derive(Clone, Copy, Debug, PartialEq, Eq)]
 pub enum Verdict {
-    /// It comes to its node, and what the node tells is heard.
+    /// It comes to its node, and the reply is heard.
     Pass,
     /// It never comes to its node. Its sender hears nothing, and may send it again.
     DropAsk,
-    /// It comes to its node, and what the node tells is lost.
+    /// It comes to its node, and the reply is lost.
     DropTell,
     /// It comes to its node twice, and each tell is heard.
     Twice,
     /// It is kept by the thread that sends it, and comes to its node so many turns later.
     LateAsk { turns: u8 },
-    /// It comes to its node, and what the node tells is kept by the thread, and heard so many turns later.
+    /// It comes to its node, and the reply is kept by the thread, and heard so many turns later.
     LateTell { turns: u8 },
 }
 
-/// What happens to a node that answers asks.
+/// A blow to a node that answers asks.
 #[derive(Clone, Copy, Debug, PartialEq, Eq)]
 pub enum Blow {
     /// It crashes. A cell or a log is opened again at once; a sequencer is gone.
@@ -35,8 +35,7 @@ pub enum Blow {
     Lose { log: LogId },
 }
 
-/// What happens to asks and nodes, and when recoverers begin. It is asked by the thread whose turn it is, with no
-/// lock held.
+/// The fate of asks and nodes, and when recoverers begin. The thread whose turn it is asks for it, with no lock held.
 pub trait Faults {
     ghost use Rattle.std.specs.Prelude.{ℕ, Bool, List, Option};
     ghost use Rattle.fr_ask.specs.declared.ask.Ask.{Ask};
@@ -48,24 +47,24 @@ pub trait Faults {
     /// Whether the recoverer of a ballot may begin at a turn.
     ghost begun: { Self → ℕ → ℕ → Bool };
 
-    /// What may happen to an ask to a node.
+    /// The verdicts that an ask to a node may get.
     ghost MayBefall: { Self → NodeId → Ask → Verdict → Type 0 } = { λ faults to ask verdict. Unit {0} };
 
-    /// What may happen to a node at a turn of the thread of crashes, if these generations are chosen, and whether
-    /// nothing may.
+    /// The blows that a turn of the thread of crashes may bring, if these generations are chosen, and whether it may
+    /// bring none.
     ghost MayStrike: { Self → ℕ → List Chosen → Option Blow → Type 0 } = { λ faults turn chosen blow. Unit {0} };
 
     /// Whether a node that asks may be gone from a turn of its thread on, and whether it may stay.
     ghost MayEnd: { Self → NodeId → ℕ → Bool → Type 0 } = { λ faults node turn is_end. Unit {0} };
 
-    /// What happens to this ask to a node.
+    /// The fate of this ask to a node.
     fn verdict(&self, to: NodeId, ask: &Ask) -> Verdict
         ensures { MayBefall self.now to ask.now result };
 
     /// The node gave a reply to this request, be it heard or lost. Faults that follow a script wait for it.
     fn answered(&self, to: NodeId, ask: &Ask);
 
-    /// What happens to a node at this turn of the thread of crashes, if these generations are chosen, that of the start
+    /// The blow to a node at this turn of the thread of crashes, if these generations are chosen, that of the start
     /// first.
     fn strikes(&self, turn: u32, chosen: &[Chosen]) -> Option<Blow>
         ensures { MayStrike self.now turn chosen.now result };

@@ -10,7 +10,7 @@ const LOOKS: u32 = 40;
 
 const MILLISECONDS: u64 = 50;
 
-/// What stands for a version if nobody is to wait any more. It is above all of them.
+/// The number in place of a version if nobody is to wait any more. It is above all of them.
 const LET_GO: u64 = u64::MAX;
 
 /// The versions that a log told to hold. For each remainder by 8 there is the greatest one, so that of the threads that

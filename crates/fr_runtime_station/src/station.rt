@@ -27,8 +27,8 @@ pub struct Station<N: Node>
 where
     N::Plain: Housable,
 {
-    /// The node, which stays the same: what is looked up by it needs no lock. It is beside the lock, since nothing is
-    /// known of what lies under it.
+    /// The node, which stays the same, so look-ups by it need no lock. It is beside the lock, since nothing is known of
+    /// a value under it.
     pub place: NodeId,
     lock: Mutex<Answering<N>>,
     held: HeldVersions,
@@ -52,9 +52,9 @@ where
         }
     }
 
-    /// Asks the node, as [`Housed::ask`] does, once the lock is free. What is answered and what is left are those of
-    /// one ask of such a node, as it was when the lock was taken. The stamp is above the caller's; a fault is one
-    /// that the node can meet, `Memory`, or that it takes no call.
+    /// Asks the node, as [`Housed::ask`] does, once the lock is free. Answer and effect are those of one ask of such a
+    /// node, as it was when the lock was taken. The stamp is above the caller's; a fault is one that the node can meet,
+    /// `Memory`, or that it takes no call.
     pub fn call<R: Wait>(
         &self,
         rt: &R,
@@ -76,8 +76,8 @@ where
         self.lock.lock(rt).ask(alloc, stamp, from, ask)
     }
 
-    /// Crashes the node, as [`Housed::crash`] does, once the lock is free. What is answered and what is left are
-    /// those of one crash of such a node, as it was when the lock was taken. The stamp is above the caller's.
+    /// Crashes the node, as [`Housed::crash`] does, once the lock is free. Answer and effect are those of one crash of
+    /// such a node, as it was when the lock was taken. The stamp is above the caller's.
     pub fn crash<R: Wait>(&self, rt: &R, alloc: Global, stamp: Stamp) -> Result<Stamp, CallFault>
     where
         N: Drop,
@@ -89,8 +89,8 @@ where
         self.lock.lock(rt).crash(alloc, stamp)
     }
 
-    /// The node is lost, as [`Housed::lose`] does, once the lock is free. What is answered and what is left are those
-    /// of one loss of such a node, as it was when the lock was taken. The stamp is above the caller's.
+    /// The node is lost, as by [`Housed::lose`], once the lock is free. Answer and effect are those of one loss of such
+    /// a node, as it was when the lock was taken. The stamp is above the caller's.
     pub fn lose<R: Wait>(&self, rt: &R, alloc: Global, stamp: Stamp) -> Result<Stamp, CallFault>
     where
         N: Drop,

@@ -17,7 +17,7 @@ pub struct FrailDevice<'a, D: Device> {
 }
 
 impl<'a, D: Device> FrailDevice<'a, D> {
-    /// A device with this fuse. What it refuses is counted beside it.
+    /// A device with this fuse. Its refusals are counted beside it.
     pub fn new(device: D, fuse: Fuse, refusals: &'a RefusedCalls) -> Self
         ensures device { result.device ≡ device }
         ensures fuse { result.fuse ≡ fuse }
@@ -64,6 +64,7 @@ impl<D: Device> Device for FrailDevice<'_, D> {
     }
 
     fn write_at(&mut self, at: usize, bytes: &[u8]) -> Result<(), DeviceFault> {
+        // A refused write does nothing, so it is one of the things that a device may leave after `Device`.
         let result = if self.works() {
             self.device.write_at(at, bytes)
         } else {

@@ -33,7 +33,7 @@ fn spend(fuse: &mut Fuse, refused: &mut u64, refusals: &RefusedCalls) -> io::Res
 }
 
 impl<'a, D: Disk> FrailDisk<'a, D> {
-    /// A file with this fuse. What it refuses is counted beside it.
+    /// A file with this fuse. Its refusals are counted beside it.
     pub fn new(inner: D, fuse: Fuse, refusals: &'a RefusedCalls) -> Self
         ensures inner { result.inner ≡ inner }
         ensures fuse { result.fuse ≡ fuse }

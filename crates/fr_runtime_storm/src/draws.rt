@@ -9,15 +9,15 @@ use rand_core::SeedableRng;
 use rand_core::utils::NextWord;
 use rand_pcg::Pcg32;
 
-/// What a storm draws from: its seed, how often which fault comes, and which nodes there are to crash. The draws of each
-/// call are its own, so what happens to it depends on the seed and its number alone.
+/// The ranges of a storm's draws: its seed, how often which fault comes, and which nodes there are to crash. The draws
+/// of each call are its own, so its fate depends on the seed and its number alone.
 #[derive(Clone, Copy, Debug, PartialEq, Eq)]
 pub struct Draws {
     /// The number from which all is drawn.
     pub seed: u64,
     /// How many of 256 draws are a fault: 0 none of them, 256 each.
     pub strength: u16,
-    /// How many of 256 asks that no other fault meets come late, or what is told of them does.
+    /// How many of 256 asks that no other fault meets come late, or their replies do.
     pub late: u16,
     /// How many of 256 further draws are a crash of a node of any generation, and of a node that asks.
     pub crashes: u16,
@@ -45,7 +45,7 @@ impl Draws {
         word_of(self.seed.wrapping_add(call))
     }
 
-    /// What happens to an ask, by the draw of this call.
+    /// The fate of an ask, by the draw of this call.
     pub fn verdict(self, call: u64) -> Verdict
         ensures { result ≡ verdict_of self.strength self.late (word_at self.seed call) }
     {
@@ -53,6 +53,7 @@ impl Draws {
         if word % 256 < u32::from(self.strength) {
             return fault(word / 256 % 3);
         }
+        // Other bits of the same word, so that the two draws do not depend on each other.
         if word / 65_536 % 256 < u32::from(self.late) {
             return late(word);
         }
@@ -74,7 +75,7 @@ impl Draws {
         })
     }
 
-    /// What happens to a node of one of the chosen generations by the draw of this call, if something does.
+    /// The blow to a node of one of the chosen generations by the draw of this call, if there is one.
     pub fn blow(self, call: u64, chosen: &[Chosen]) -> Option<Blow>
         ensures { result ≡ blow_at self.crashes self.losses (named_by chosen.now (word_at self.seed call))
             (word_at self.seed call) }
@@ -132,7 +133,7 @@ fn fault(number: u32) -> Verdict
     }
 }
 
-/// An ask, or what is told of it, comes 1 to 64 turns late, as a word says.
+/// An ask, or its reply, comes 1 to 64 turns late, as a word says.
 fn late(word: u32) -> Verdict
     ensures { result ≡ late_at word }
 {
@@ -177,6 +178,7 @@ fn lost(generation: Generation, word: u32) -> Option<Blow>
     ensures { result ≡ lost_of generation word }
 {
     let epoch = generation.epoch();
+    // Each log has the only copy of some tags, and a lost one would be beyond what the theorem speaks of.
     if generation.k() == 1 {
         return None;
     }

@@ -6,7 +6,7 @@ use crate::word_of;
 use fr_base::LogId;
 use std::sync::atomic::{AtomicU64, Ordering};
 
-/// What is drawn from: a seed, and how rarely a call is refused. At 0 each one is.
+/// The range of a draw of refusals: a seed, and how rarely a call is refused. At 0 each one is.
 #[derive(Clone, Copy, Debug, PartialEq, Eq)]
 pub struct Frailty {
     /// The number from which all is drawn.
@@ -21,6 +21,7 @@ impl Frailty {
         ensures { result ≡ record { every = drawn_by self number; left = drawn_by self number } }
     {
         let every = u64::from(self.every);
+        // Each device has its own distance, so that they do not all fail at the same turn.
         let extra = match u64::from(word_of(self.seed.wrapping_add(number))).checked_rem(every) {
             Some(extra) => extra,
             None => 0,

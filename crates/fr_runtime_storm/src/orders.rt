@@ -13,12 +13,13 @@ use rand_pcg::Pcg32;
 use std::alloc::Global;
 
 /// So many batches of one mutation each, with a step of 1, drawn from one generator that the seed and the workload's
-/// number give. By the first of two words a batch sets, adds to or combines by exclusive or one of four keys of a shard,
-/// or clears the first two of them; the second is the value or the parameter. It keeps what it gave and what it was told.
+/// number give. By the first of two words a batch sets, adds to or combines by exclusive or one of four keys of a
+/// shard, or clears the first two of them; the second is the value or the parameter. It keeps its batches and their
+/// outcomes.
 #[derive(Drop)]
 pub struct DrawnOrders {
     alloc: Global,
-    /// What its generator was seeded by.
+    /// The seed of its generator.
     pub seed: u64,
     /// Over how many shards it draws.
     pub shards: u8,
@@ -68,7 +69,7 @@ impl DrawnOrders {
         self.given.as_slice()
     }
 
-    /// What it was told of them, the oldest first.
+    /// Their outcomes, the oldest first.
     pub fn heard(&self) -> &[Outcome]
         ensures { result.now ≡ ⟦<DrawnOrders as Workload>⟧.heard self.now }
     {
@@ -158,6 +159,7 @@ impl Workload for DrawnOrders {
         let Some(step) = Step::new(1) else {
             unreachable!();
         };
+        // A copy is drawn from and kept only at the end, so that out of memory the same batch is drawn again.
         let mut rng = self.rng.clone()?;
         let word = rng.next_word();
         let operand = rng.next_word();

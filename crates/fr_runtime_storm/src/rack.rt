@@ -53,7 +53,7 @@ pub struct FrailRack<'a> {
 }
 
 impl<'a> FrailRack<'a> {
-    /// Nodes and stores that fail as is drawn from this. What they refuse is counted beside them.
+    /// Nodes and stores that fail as is drawn from this. Their refusals are counted beside them.
     pub fn new(frailty: Frailty, refusals: &'a RefusedCalls) -> Self {
         FrailRack {
             frailty,

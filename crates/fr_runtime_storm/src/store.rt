@@ -20,7 +20,7 @@ pub struct FrailStore<D: FaithfulDisk + Drop> {
 }
 
 impl<D: FaithfulDisk + Drop> FrailStore<D> {
-    /// An empty store in files that hold no table, with nothing applied. What refuses drops the files.
+    /// An empty store in files that hold no table, with nothing applied. A refusal drops the files.
     ///
     /// # Errors
     ///

@@ -16,7 +16,7 @@ use std::sync::atomic::{AtomicU64, Ordering};
 /// seed repeats its draws and not its schedule. A plain cluster is a storm of strength 0.
 #[derive(Drop)]
 pub struct Storm {
-    /// What it draws from.
+    /// The ranges of its draws.
     pub draws: Draws,
     calls: AtomicU64,
     ghost cells: { 1 ≤ draws.coordinators },
@@ -36,7 +36,6 @@ impl Storm {
         }
     }
 
-    /// The number of the next call.
     fn next_call(&self) -> u64 {
         self.calls.fetch_add(1, Ordering::SeqCst)
     }

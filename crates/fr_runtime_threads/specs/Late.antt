@@ -2,7 +2,7 @@
 use Rattle.std.specs.Prelude.{◌-◌, ◌++◌, nat_le, List, [], ◌∷◌, if◌then◌else◌}
 use Rattle.fr_runtime_threads.specs.declared.late.Letter.{Letter}
 
--- what comes of one message, and what is left of it, a turn nearer
+-- the outcome of one message, and the rest of its delay, a turn nearer
 
 abbrev pub due_by : Letter → List Letter
 due_by l = if nat_le l.turns 1 then l ∷ [] else []

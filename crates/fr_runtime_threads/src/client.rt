@@ -23,7 +23,7 @@ use std::sync::Wait;
 use std::thread::yield_now;
 
 /// A workload at its proxies: the present one, the journals of the earlier ones, a batch that none has taken yet, and
-/// what the workload was told.
+/// the outcomes that the workload received.
 #[derive(Drop)]
 struct Client<W: Workload> {
     first: Snapshot<W>,
@@ -40,8 +40,8 @@ struct Client<W: Workload> {
     ghost place: { is_proxy number door.notes.journal.node ≡ true },
 }
 
-/// What a workload's thread hands back: the workload, the journals of its proxies, the batch that none of them took, if
-/// there is one, and what the workload was told.
+/// The result of a workload's thread: the workload, the journals of its proxies, the batch that none of them took, if
+/// there is one, and the outcomes that the workload received.
 #[derive(Drop)]
 pub struct Served<W: Workload> {
     pub work: W,
@@ -174,7 +174,7 @@ impl<W: Workload + Drop> Client<W> {
         Ok(true)
     }
 
-    /// Tells the workload what the proxy said, if it said something of its batch.
+    /// Gives the workload the outcome of its batch, if the proxy said one.
     fn settle(&mut self) -> Result<(), Memory>
         ensures first { self.new.first ≡ self.old.first }
         ensures number { self.new.number ≡ self.old.number }

@@ -9,7 +9,7 @@ use fr_runtime_station::{Blow, Faults, first_stamp};
 use std::sync::Wait;
 use std::thread::yield_now;
 
-/// Crashes and loses what the faults name, one turn after the other; each turn first lets other threads go.
+/// Crashes and loses the nodes that the faults name, one turn after the other; each turn first lets other threads go.
 pub fn crash<K: Rack, F: Faults, R: Wait>(
     site: &Site<'_, K, F, R>,
     turns: u32,
@@ -27,7 +27,8 @@ pub fn crash<K: Rack, F: Faults, R: Wait>(
     Ok(())
 }
 
-/// What the faults name at a turn crashes or is lost: the stamp of that, above this one, if it is entered.
+/// The node that the faults name at a turn crashes or is lost. Answers the stamp of that, above this one, if it is
+/// entered.
 fn strike<K: Rack, F: Faults, R: Wait>(
     site: &Site<'_, K, F, R>,
     turn: u32,

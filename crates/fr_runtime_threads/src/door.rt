@@ -22,7 +22,7 @@ use fr_state::Generation;
 use std::alloc::Global;
 use std::sync::Wait;
 
-/// A proxy with its journal, and what its journal comes to: what it said of each batch, and what became of the last.
+/// A proxy with its journal, and what follows from that: its word on each batch, and the fate of the last.
 #[derive(Drop)]
 pub(crate) struct Door {
     proxy: Proxy,
@@ -39,7 +39,7 @@ pub(crate) struct Door {
     ghost opens: { (account notes.journal.entries).is_open ≡ is_open_in under_way },
 }
 
-/// What became of a batch once its proxy said this.
+/// A batch's fate, from its proxy's word.
 fn after_saying(under_way: UnderWay, outcome: Outcome) -> UnderWay
     ensures { result ≡ after_saying under_way outcome }
 {
@@ -107,7 +107,7 @@ impl Door {
         self.notes.seen()
     }
 
-    /// What became of the batch that it took last.
+    /// The fate of the batch that it took last.
     pub(crate) fn under_way(&self) -> UnderWay
         ensures { result ≡ self.now.under_way }
     {
@@ -135,7 +135,7 @@ impl Door {
         self.is_gone
     }
 
-    /// The proxy crashes, and is gone. What was under way stays so.
+    /// The proxy crashes, and is gone. A batch in flight stays so.
     pub(crate) fn crash(&mut self) -> Result<(), Memory>
         ensures place { self.new.notes.journal.node ≡ self.old.notes.journal.node }
         ensures told { self.new.told.items ≡ self.old.told.items }
@@ -201,7 +201,7 @@ impl Door {
         Ok(())
     }
 
-    /// The workload is told what the proxy said. It takes no memory.
+    /// The workload receives the outcome that the proxy said. It takes no memory.
     pub(crate) fn take(&mut self, outcome: Outcome)
         requires room { length self.old.told.items < vec_capacity self.old.told }
         requires said { self.old.under_way ≡ UnderWay.Said outcome }

@@ -36,7 +36,7 @@ impl From<NodeFault> for TurnFault {
     }
 }
 
-/// What a fault of a store is to its thread.
+/// The fault of a thread whose store has this fault.
 pub(crate) fn fault_of(fault: StoreFault) -> TurnFault
     ensures { result ≡ of_store fault }
 {

@@ -24,7 +24,7 @@
 //!    it each batch behind would wait its two seconds in vain (invariant 7 of fr_runtime_station).
 //! 8. Faults are asked between calls, when no lock is held (invariant 2 of fr_runtime_station).
 //! 9. A turn that brought nothing lets other threads go first (`yield_now`). Otherwise threads that only ask again
-//!    keep the processors from those on which they wait.
+//!    keep the processors from those on which they wait: two proxies then commit a fifteenth of what one does.
 #![tactic(auto)]
 
 mod client;

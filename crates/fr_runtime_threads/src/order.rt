@@ -28,7 +28,7 @@ pub fn batch_of_one(alloc: Global, mutation: Mutation) -> Result<Batch, Memory>
     }
 }
 
-/// What became of the batch that a proxy took last.
+/// The fate of the batch that a proxy took last.
 #[derive(Clone, Copy, Debug)]
 pub(crate) enum UnderWay {
     /// No batch is under way, and the workload was told of all before.

@@ -108,7 +108,7 @@ impl<S: ShardStore> Puller<S> {
     }
 }
 
-/// What a storage server answers, if it is not a fault of its store.
+/// A storage server's answer, unless it is a fault of its store.
 fn unless_fault<T>(answer: Result<T, StorageFault>) -> Result<T, TurnFault>
     ensures { IfOk result (λ value. answer ≡ Ok value) }
 {
@@ -119,7 +119,7 @@ fn unless_fault<T>(answer: Result<T, StorageFault>) -> Result<T, TurnFault>
     }
 }
 
-/// What a storage server says of itself when its turns are over. A store that fails at this is opened again, once.
+/// A storage server's last state when its turns are over. A store that fails at this is opened again, once.
 fn last_said<S: ShardStore>(alloc: Global, storage: &mut Storage<S>) -> Result<Last, TurnFault> {
     if let Ok(last) = last_of_storage(alloc, storage) {
         return Ok(last);

@@ -158,7 +158,7 @@ fn fresh_logs<K: Rack>(
     Ok(logs)
 }
 
-/// Publishes what a recoverer has come to: its logs once all is copied, its epoch once its state is chosen.
+/// Publishes a recoverer's results: its logs once all is copied, its epoch once its state is chosen.
 fn show<K: Rack, F, R: Wait>(
     site: &Site<'_, K, F, R>,
     recovery: &Recovery,
@@ -193,7 +193,7 @@ fn show<K: Rack, F, R: Wait>(
     Ok(shown)
 }
 
-/// One turn: what is late comes, and each pending ask is sent once.
+/// One turn: late messages come, and each pending ask is sent once.
 fn recover_once<K: Rack, F: Faults, R: Wait>(
     site: &Site<'_, K, F, R>,
     recovery: &mut Recovery,

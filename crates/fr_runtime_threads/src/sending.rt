@@ -13,7 +13,7 @@ use fr_runtime_station::{Faults, Verdict};
 use std::alloc::Global;
 use std::sync::Wait;
 
-/// A node that sends asks and hears what it is told.
+/// A node that sends asks and hears the replies.
 pub(crate) trait Hearer {
     ghost use Rattle.std.specs.Prelude.{List, Option};
     ghost use Rattle.fr_base.specs.Shape.{ShapeContent};
@@ -30,7 +30,7 @@ pub(crate) trait Hearer {
     /// The batches that the node took, if it is a proxy.
     ghost given: { Self → List Order };
 
-    /// What the node's workload was told of its batches.
+    /// The outcomes that the node's workload received.
     ghost told: { Self → List Outcome };
 
     /// The node's journal, and the greatest stamp that its thread has seen.
@@ -41,7 +41,7 @@ pub(crate) trait Hearer {
     /// state has no more to let go of anything.
     fn may_come(&self, ask: &Ask) -> bool;
 
-    /// The node's thread has seen this stamp: what is entered from then on comes after it.
+    /// The node's thread has seen this stamp: its later entries come after it.
     fn see(&mut self, at: Stamp)
         ensures journal { (notes self.new).journal ≡ (notes self.old).journal }
         ensures seen { (notes self.new).seen ≡ max (notes self.old).seen at }
@@ -59,7 +59,7 @@ pub(crate) trait Hearer {
         ensures told { told self.new ≡ told self.old };
 }
 
-/// Sends an ask, and has its sender hear what it is told, as the faults say. What is late is kept.
+/// Sends an ask, and has its sender hear the reply, as the faults say. A late message is kept.
 pub(crate) fn send<K: Rack, F: Faults, R: Wait, H: Hearer>(
     site: &Site<'_, K, F, R>,
     hearer: &mut H,
@@ -150,7 +150,7 @@ fn bring<K: Rack, F: Faults, R: Wait, H: Hearer>(
     }
 }
 
-/// Calls a node, and has the one that asked hear what it is told.
+/// Calls a node, and has the one that asked hear the reply.
 fn exchange<K: Rack, F: Faults, R: Wait, H: Hearer>(
     site: &Site<'_, K, F, R>,
     hearer: &mut H,
@@ -170,7 +170,7 @@ fn exchange<K: Rack, F: Faults, R: Wait, H: Hearer>(
     }
 }
 
-/// Has the one that asked hear what it is told at this stamp, unless the thread has gone over to another node since.
+/// Has the one that asked hear the reply at this stamp, unless the thread has gone over to another node since.
 fn hear<K: Rack, F: Faults, R: Wait, H: Hearer>(
     site: &Site<'_, K, F, R>,
     hearer: &mut H,
@@ -196,8 +196,8 @@ fn hear<K: Rack, F: Faults, R: Wait, H: Hearer>(
     }
 }
 
-/// Calls a node for one that asks: what it told, and the stamp of that. A call that is refused tells nothing. The
-/// thread sees the stamp even if the tell is lost or late: what it enters next comes after the ask.
+/// Calls a node for one that asks: the reply, and its stamp. A call that is refused has no reply. The thread sees the
+/// stamp even if the reply is lost or late: its next entry comes after the ask.
 fn call<K: Rack, F: Faults, R: Wait, H: Hearer>(
     site: &Site<'_, K, F, R>,
     hearer: &mut H,

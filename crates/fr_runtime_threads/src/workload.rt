@@ -5,8 +5,8 @@ use fr_base::{Memory, Step};
 use fr_mutation::Batch;
 use fr_proxy::Outcome;
 
-/// Where a proxy's batches come from, and who is told what became of them. Contracts see it as two lists that it keeps:
-/// the batches that it gave, each with its step, and what it was told of them.
+/// Gives a proxy its batches, and receives their outcomes. Contracts see it as two lists that it keeps: the batches
+/// that it gave, each with its step, and the outcomes that it received.
 pub trait Workload {
     ghost use Rattle.std.specs.Prelude.{List};
     ghost use Rattle.fr_proxy.specs.declared.outcome.Outcome.{Outcome};
@@ -15,7 +15,7 @@ pub trait Workload {
     /// The batches that it gave, the oldest first.
     ghost given: { Self → List Order };
 
-    /// What it was told of them, the oldest first.
+    /// The outcomes that it received, the oldest first.
     ghost heard: { Self → List Outcome };
 
     /// The next batch, and how far above the version before it is to be; None if there is none. Out of memory it

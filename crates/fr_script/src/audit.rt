@@ -17,7 +17,7 @@ use fr_run::Config;
 use serde_json::Value;
 use std::alloc::Global;
 
-/// What was read of a script.
+/// The parts of a script that were read.
 #[derive(Drop)]
 struct Found {
     config: Option<Config>,

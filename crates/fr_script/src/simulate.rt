@@ -29,7 +29,7 @@ pub enum ScriptStep {
     Pull(Pull),
     /// A storage server asks a log for the mark.
     Mark(Pull),
-    /// A storage server has a log let go of what it has for good.
+    /// A storage server has a log free the records that the server has for good.
     Pop(Pull),
     /// A storage server answers a read.
     Read(Read),
@@ -85,7 +85,7 @@ pub struct Recover {
     pub mark: Vec<u8>,
 }
 
-/// What was read of a script.
+/// The parts of a script that were read.
 #[derive(Drop)]
 struct Found {
     config: Option<Config>,

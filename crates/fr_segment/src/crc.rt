@@ -270,7 +270,6 @@ fn step(state: u32, byte: u8) -> u32
     TABLE[low as usize] ^ (state >> 8)
 }
 
-/// The state after more bytes.
 fn extend(state: u32, bytes: &[u8]) -> u32
     ensures { result ≡ crc_from state bytes.now }
 {

@@ -12,7 +12,7 @@ use crate::whose::header_number;
 use fr_record::{Device, RecordFault};
 use std::alloc::Global;
 
-/// What a device begins with.
+/// The beginning of a device.
 #[derive(Clone, Copy, Debug, PartialEq, Eq)]
 pub enum First {
     /// Fewer bytes than a gate has.
@@ -30,15 +30,14 @@ pub enum Turn {
     Latter(u64),
 }
 
-/// Whether two byte strings are the same.
 fn is_same(a: &[u8], b: &[u8]) -> bool
     ensures { IsTrue result ↔ (a.now ≡ b.now) }
 {
     a == b
 }
 
-/// What the bytes of a device begin with. The gate may be torn, and what is behind the first block is not looked at: while
-/// an older file's gate is being closed, both may be left of it (invariant 11).
+/// What the bytes of a device begin with. The gate may be torn, and what is behind the first block is not looked at:
+/// while an older file's gate is being closed, both may be left of it (invariant 11).
 fn first_in(bytes: &[u8], identity: &[u8]) -> Result<First, OpenFault>
     ensures missing { (result ≡ Ok First.Missing) → length bytes.now < 2 }
     ensures closed { (result ≡ Ok First.Closed) → HoldsNothing bytes.now }

@@ -1,5 +1,5 @@
-//! The two ways in which a file changes: bytes are put behind a closed gate, which is then opened; and the first gate is
-//! closed, so that a file is begun anew.
+//! The two ways in which a file changes: bytes are put behind a closed gate, which is then opened; and the first gate
+//! is closed, so that a file is begun anew.
 ghost use Rattle.std.specs.Prelude.{◌≡◌, ◌+◌, ◌^◌, ◌<◌, [], ◌∷◌, Err, length, OnOk};
 ghost use Rattle.fr_record.specs.Disk.{Stands, IsDurable};
 ghost use Rattle.fr_record.specs.Moments.{Throughout};
@@ -62,7 +62,8 @@ fn close_first<D: Device>(device: &mut D) -> Result<(), DeviceFault>
     Ok(())
 }
 
-/// Begins a file anew on a device, whatever is behind its first gate: closes that gate, puts bytes behind it and opens it.
+/// Begins a file anew on a device, whatever is behind its first gate: closes that gate, puts bytes behind it and opens
+/// it.
 pub(crate) fn renew<D: Device>(device: &mut D, new: &[u8]) -> Result<(), DeviceFault>
     requires within { 1 < length (D.disk device.old).content }
     requires durable { IsDurable (D.disk device.old) }

@@ -40,7 +40,7 @@ pub trait GroupFile: Drop {
     /// records have P.
     ghost Throughout: { (List (List ℕ) → Type 0) → Self → Self → Type 0 };
 
-    /// What has P has Q too.
+    /// Everything that has P has Q too.
     ghost weaker: { (P Q : List (List ℕ) → Type 0) (f g : Self) → ((rs : List (List ℕ)) → P rs → Q rs) → Throughout P f g → Throughout Q f g };
 
     /// One way after another.
@@ -79,7 +79,8 @@ pub trait GroupFile: Drop {
         ensures no_failure { OnOk result (failures self.new ≡ failures self.old) }
         ensures owes { owed self.new ≡ owed self.old }
         ensures any_moment { is_failed self.old ≡ false → Throughout (λ rs. rs ≡ records self.old) self.old self.new }
-        ensures sizes { (room self.new ≡ room self.old) × (used self.new ≡ used self.old) × (next_room self.new ≡ next_room self.old) × (front self.new ≡ front self.old) };
+        ensures sizes { (room self.new ≡ room self.old) × (used self.new ≡ used self.old)
+            × (next_room self.new ≡ next_room self.old) × (front self.new ≡ front self.old) };
 
     /// Adds a group of records, all of them or none, and leaves so many bytes free behind it. Once it answered `Ok`,
     /// every crash leaves them; no record changes nothing.

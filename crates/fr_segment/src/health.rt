@@ -18,7 +18,6 @@ pub enum Health {
 }
 
 impl Health {
-    /// Whether a device failed.
     pub(crate) fn has_failed(&self) -> bool
         ensures { result ≡ has_failed self.now }
     {
@@ -28,7 +27,7 @@ impl Health {
         }
     }
 
-    /// A fault of a call that puts nothing. What was in flight before stays in flight.
+    /// A fault of a call that puts nothing. A group that was in flight stays so.
     pub(crate) fn fail(&mut self)
         ensures { self.new ≡ failed_now self.old }
     {

@@ -11,8 +11,8 @@ pub enum OpenFault {
     /// A file is another owner's.
     #[error("the files are another owner's")]
     Stranger,
-    /// A device holds neither nothing nor a file of a pair, or the two are no pair: both files have one number, or a device
-    /// beside a file is too short to hold nothing. So bytes are damaged.
+    /// A device holds neither nothing nor a file of a pair, or the two are no pair: both files have one number, or a
+    /// device beside a file is too short to hold nothing. So bytes are damaged.
     #[error("the bytes are no record file")]
     Broken,
     /// A device failed.

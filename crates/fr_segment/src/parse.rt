@@ -11,7 +11,7 @@ use crate::place::Place;
 use fr_record::RecordFault;
 use std::alloc::Global;
 
-/// What was read of a file.
+/// The parts of a file that were read.
 #[derive(Drop)]
 pub(crate) struct Found {
     /// Where its records are.
@@ -24,7 +24,6 @@ pub(crate) struct Found {
     pub(crate) torn: Option<usize>,
 }
 
-/// The number that four bytes spell.
 pub(crate) fn read_u32(bytes: &[u8], at: usize) -> u32
     requires { at + 4 ≤ length bytes.now }
     ensures { take 4 (drop at bytes.now) ≡ to_be_bytes w32 result }
@@ -41,8 +40,8 @@ pub(crate) fn block_at(bytes: &[u8], at: usize, number: u64) -> Option<usize>
     if bytes.len() - at < 12 {
         return None;
     }
-    // The length has a checksum of its own. Without it a changed length could name another place for the body's sum, and
-    // bytes of a record could stand there.
+    // The length has a checksum of its own. Without it a changed length could name another place for the body's sum,
+    // and bytes of a record could stand there.
     if read_u32(bytes, at + 4) != sum(number, &bytes[at..at + 4]) {
         return None;
     }
@@ -116,8 +115,8 @@ fn is_opened(bytes: &[u8], at: usize) -> bool
     bytes[at] == 1 && bytes[at + 1] == 1
 }
 
-/// The places of the records of a file, and those of its gates that count. A crash tears only the last group's gate, which
-/// is written anew before anything is put behind it: another one that is not 01 01 is damage.
+/// The places of the records of a file, and those of its gates that count. A crash tears only the last group's gate,
+/// which is written anew before anything is put behind it: another one that is not 01 01 is damage.
 pub(crate) fn parse(alloc: Global, bytes: &[u8]) -> Result<Found, RecordFault>
     ensures parsed { IfOk result (λ found. IsParsed bytes.now found.torn found.table.items found.end found.count) }
     ensures torn { IfOk result (λ found. IsTornGate bytes.now found.torn (groups_in found.count (mended bytes.now found.torn))) }

@@ -15,7 +15,7 @@ use fr_base::Bytes;
 use fr_record::{Device, DeviceFault, RecordFault};
 use std::alloc::Global;
 
-/// All bytes of a device. It is synced before they are read, so that a later crash leaves what was read.
+/// All bytes of a device. It is synced before they are read, so that a later crash leaves these.
 pub(crate) fn load<D: Device>(alloc: Global, device: &mut D) -> Result<Vec<u8>, RecordFault>
     ensures bytes { IfOk result (λ bytes. bytes.items ≡ (D.disk device.old).content) }
     ensures durable { OnOk result (IsDurable (D.disk device.new)) }
@@ -37,7 +37,6 @@ pub(crate) fn load<D: Device>(alloc: Global, device: &mut D) -> Result<Vec<u8>, 
     Ok(bytes)
 }
 
-/// The bytes at a place.
 pub(crate) fn read_record<D: Device>(
     alloc: Global,
     device: &mut D,
@@ -102,7 +101,8 @@ fn set_guard<D: Device>(device: &mut D, end: usize, number: u64) -> Result<(), D
 fn read_groups<D: Device>(alloc: Global, device: &mut D) -> Result<(Found, bool), RecordFault>
     ensures file { IfOk result (λ it. IsFile (D.disk device.new) it.0.table.items it.0.end false (groups_in it.0.count (D.disk device.new).content)) }
     ensures guarded { IfOk result (λ it. IsTrue it.1 → IsGuarded (D.disk device.new).content it.0.end it.0.count) }
-    ensures unguarded { IfOk result (λ it. it.1 ≡ false → (IsGuarded (D.disk device.new).content it.0.end it.0.count → ⊥) × (it.0.end + 14 ≤ length (D.disk device.new).content)) }
+    ensures unguarded { IfOk result (λ it. it.1 ≡ false → (IsGuarded (D.disk device.new).content it.0.end it.0.count → ⊥)
+        × (it.0.end + 14 ≤ length (D.disk device.new).content)) }
     ensures stands_for { IfOk result (λ it. StandsFor (D.disk device.old).content (groups_in it.0.count (D.disk device.new).content)) }
     ensures broken { (result ≡ Err RecordFault.Broken) → (gs : List Group) → StandsFor (D.disk device.old).content gs → ⊥ }
     ensures capacity { D.capacity_of device.new ≡ D.capacity_of device.old }
@@ -140,8 +140,8 @@ fn read_groups<D: Device>(alloc: Global, device: &mut D) -> Result<(Found, bool)
     }
 }
 
-/// Reads the file that a device holds, whatever a crash made of it: its last gate is written anew if that is torn, and a
-/// group that lies behind the closed gate is given up for good.
+/// Reads the file that a device holds, whatever a crash made of it: its last gate is written anew if that is torn, and
+/// a group that lies behind the closed gate is given up for good.
 pub(crate) fn read_file<D: Device>(alloc: Global, device: &mut D) -> Result<Found, RecordFault>
     ensures file { IfOk result (λ found. IsFile (D.disk device.new) found.table.items found.end false (groups_in found.count (D.disk device.new).content)) }
     ensures guarded { IfOk result (λ found. IsGuarded (D.disk device.new).content found.end found.count) }

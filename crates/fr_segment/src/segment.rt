@@ -20,8 +20,8 @@ use fr_record::{Device, DeviceFault, RecordFault};
 use std::alloc::{AllocError, Global};
 use std::marker::Model;
 
-/// A file of groups of records on a device. A group that was acknowledged is there after every crash, and a byte that is
-/// changed on the device is told when the file is opened.
+/// A file of groups of records on a device. A group that was acknowledged is there after every crash, and a byte that
+/// is changed on the device is told when the file is opened.
 #[derive(Drop)]
 pub struct Segment<D: Device> {
     device: D,
@@ -40,7 +40,8 @@ impl<D: Device> Model for Segment<D> {
 
     ghost view = { λ r. record { device = r.device; groups = groups_in r.count (D.disk r.device).content; is_failed = r.is_failed } };
 
-    ghost invariant = { λ r. IsFile (D.disk r.device) r.table.items r.end r.is_failed (groups_in r.count (D.disk r.device).content) × (r.is_failed ≡ false → IsGuarded (D.disk r.device).content r.end r.count) };
+    ghost invariant = { λ r. IsFile (D.disk r.device) r.table.items r.end r.is_failed (groups_in r.count (D.disk r.device).content)
+        × (r.is_failed ≡ false → IsGuarded (D.disk r.device).content r.end r.count) };
 }
 
 impl<D: Device> Segment<D> {
@@ -150,8 +151,8 @@ impl<D: Device> Segment<D> {
         behind_gate(alloc, self.count, &body)
     }
 
-    /// Adds a group of at least one record, spelled as `new`, for which there is room. A refusal that is not the device's
-    /// changes nothing.
+    /// Adds a group of at least one record, spelled as `new`, for which there is room. A refusal that is not the
+    /// device's changes nothing.
     pub(crate) fn put_group(&mut self, group: &[Vec<u8>], new: &[u8]) -> Result<(), RecordFault>
         requires works { self.old.is_failed ≡ false }
         requires some { group.now ≢ [] }
@@ -247,8 +248,8 @@ impl<D: Device> Segment<D> {
         }
     }
 
-    /// Opens the file again, failed or not: what the device holds then is what the file stands for. If it is refused
-    /// the groups stay, and the file stays failed if it was.
+    /// Opens the file again, failed or not: from then on the file stands for the bytes that the device then holds. If
+    /// it is refused the groups stay, and the file stays failed if it was.
     pub fn reopen(&mut self, alloc: Global) -> Result<(), RecordFault>
         ensures groups { OnOk result (StandsFor (D.disk self.old.device).content self.new.groups) }
         ensures works { OnOk result (self.new.is_failed ≡ false) }

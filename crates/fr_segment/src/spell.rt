@@ -33,7 +33,6 @@ fn push_record(bytes: &mut Vec<u8>, payload: &[u8]) -> Result<(), AllocError>
     Ok(())
 }
 
-/// The body of a group.
 pub(crate) fn spelled_body(alloc: Global, group: &[Vec<u8>]) -> Result<Vec<u8>, AllocError>
     requires { length (body (records_of group.now)) < 2 ^ 32 }
     ensures { IfOk result (λ bytes. bytes.items ≡ body (records_of group.now)) }
@@ -86,7 +85,7 @@ pub(crate) fn headed_body(
     Ok(bytes)
 }
 
-/// What is written behind the closed gate for a group of this body: its length and the body, each with a checksum, a closed
+/// The bytes behind the closed gate for a group of this body: its length and the body, each with a checksum, a closed
 /// gate, and a guard.
 pub(crate) fn behind_gate(alloc: Global, number: u64, body: &[u8]) -> Result<Vec<u8>, AllocError>
     requires short { length body.now < 2 ^ 32 }

@@ -41,7 +41,6 @@ static FILE: [u8; 53] = [
     0xe4, 0xe1, 0xdd, 0, 0, 0, 0, 0, 0, 0xa4, 0xbd, 0x95, 0xfa,
 ];
 
-/// A group of these records.
 fn group(alloc: Global, records: &[&[u8]]) -> Option<Vec<Vec<u8>>> {
     let mut group = Vec::new(alloc);
     for record in records {
@@ -51,7 +50,6 @@ fn group(alloc: Global, records: &[&[u8]]) -> Option<Vec<Vec<u8>>> {
     Some(group)
 }
 
-/// Whether the group was added.
 fn is_added<D: Device>(alloc: Global, file: &mut Segment<D>, records: &[&[u8]]) -> bool {
     match group(alloc, records) {
         Some(group) => group_len(&group) < 1 << 32 && file.append_group(alloc, &group).is_ok(),
@@ -73,7 +71,6 @@ fn empty(alloc: Global) -> Option<MemoryDevice> {
     MemoryDevice::new(alloc, ROOM).ok()
 }
 
-/// A device that holds these bytes.
 fn device_of(alloc: Global, bytes: &[u8]) -> Option<MemoryDevice> {
     let mut device = empty(alloc)?;
     device.write_at(0, bytes).ok()?;
@@ -129,7 +126,8 @@ fn changed(alloc: Global, at: usize, turn: u8) -> Opened {
     }
 }
 
-/// The gate of the last group may have been torn, and behind the closed gate nothing counts; every other change is told.
+/// The gate of the last group may have been torn, and behind the closed gate nothing counts; every other change is
+/// told.
 #[test]
 fn each_changed_byte(rt: HostRuntime) {
     let alloc = rt.alloc();
@@ -193,8 +191,8 @@ fn changed_gate(alloc: Global, at: usize, gate: u8) -> Option<Opened> {
     Some(how_it_opens(alloc, device_of(alloc, &bytes)?))
 }
 
-/// A group that was written and never opened is given up when the file is opened: no changed byte of the closed gate brings
-/// it back.
+/// A group that was written and never opened is given up when the file is opened: no changed byte of the closed gate
+/// brings it back.
 #[test]
 fn what_was_given_up_stays_away(rt: HostRuntime) {
     let alloc = rt.alloc();

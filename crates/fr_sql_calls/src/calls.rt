@@ -28,7 +28,7 @@ use sqlite::Connection;
 use std::alloc::Global;
 use std::collections::BTreeMap;
 
-/// Makes of the tables what a piece of work is to make of them, and counts the undo rows.
+/// Does a piece of work on the tables, and counts the undo rows.
 fn write<S: Backing>(conn: &mut Connection<S>, marks: &Marks, work: &Work) -> Result<usize, Trouble>
     requires stands { Stands (state S.Store conn.old) marks.now.applied marks.now.floor marks.now.rows }
     requires fits { Fits work.now (state S.Store conn.old).now }

@@ -162,7 +162,7 @@ pub fn above<S: Backing>(
     }
 }
 
-/// What a key held before the least version above one at which it has an undo row, if it has one there.
+/// A key's value before the least version above this one at which it has an undo row, if it has one there.
 pub fn first_above<S: Backing>(
     conn: &mut Connection<S>,
     key: &Bytes,
@@ -192,7 +192,7 @@ pub fn bytes<S: Backing>(conn: &mut Connection<S>) -> Result<Bytes, Trouble>
     }
 }
 
-/// Makes of the tables what they are to become, in one transaction: all of it, or nothing.
+/// Updates the tables in one transaction: all of it, or nothing.
 fn attempt<S: Backing>(conn: &mut Connection<S>, work: &Work, rows: usize) -> Result<usize, Refused>
     requires rest { IsAtRest (state S.Store conn.old) }
     requires fits { Fits work.now (state S.Store conn.old).now }

@@ -1,7 +1,7 @@
 //! What a store in SQL keeps beside its tables.
 use fr_base::Version;
 
-/// What a store knows of its tables without reading them.
+/// A store's knowledge of its tables, for which it need not read them.
 #[derive(Clone, Copy, Debug)]
 pub struct Marks {
     /// The version of the batch applied last, or the one to which the store was advanced or undone since.

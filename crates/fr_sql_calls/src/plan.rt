@@ -16,8 +16,8 @@ use fr_undo::{changes_above, changes_of, untouched_law};
 use sqlite::Connection;
 use std::alloc::Global;
 
-/// What a batch at a later version is to make of the tables. A key that is only set is read too: its undo row needs
-/// what the key held.
+/// Plans the changes of a batch at a later version. A key that is only set is read too, because its undo row needs the
+/// old value.
 pub(crate) fn plan_apply<S: Backing>(
     alloc: Global,
     conn: &mut Connection<S>,
@@ -46,7 +46,7 @@ pub(crate) fn plan_apply<S: Backing>(
     })
 }
 
-/// What an undo to an earlier version is to make of the tables.
+/// Plans an undo to an earlier version.
 pub(crate) fn plan_undo<S: Backing>(
     alloc: Global,
     conn: &mut Connection<S>,

@@ -33,7 +33,7 @@ module _ {S K : Type 0} where
   IsTold old new = IsLinkTold old.link new.link
 
 module _ {S K : Type 0} (g : Ghosts S) where
-  -- what a store shows: what its tables stand for, while its connection works
+  -- the state that a store shows: the one that its tables stand for, while its connection works
   abbrev pub state_of : Link S K → StoreState
   state_of (link.Open store) = tables.state_of g store
   state_of (link.Shut it) = fresh

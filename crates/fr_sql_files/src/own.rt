@@ -47,7 +47,6 @@ fn index<'x>(name: &'x str, table: &'x str) -> Object<'x>
     }
 }
 
-/// The trees of a store.
 fn trees<'x>() -> [Object<'x>; 5]
     ensures { map wanted_of result ≡ own_trees }
 {

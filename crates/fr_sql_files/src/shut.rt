@@ -17,7 +17,7 @@ pub(crate) enum Shut<S, K> {
     Files(K),
 }
 
-/// What is kept of tables that were taken out of their connection. What refuses keeps the tables.
+/// What is kept of tables that were taken out of their connection. A refusal keeps the tables.
 pub(crate) fn apart<S: FileTables>(tables: S) -> Result<S::Kept, (StoreFault, Shut<S, S::Kept>)>
     ensures parted { IsParted S.Store S.KeptLeaves (StoreLeaves S.Store tables) result }
 {
@@ -39,7 +39,7 @@ pub(crate) fn files_of<S: FileTables>(
     }
 }
 
-/// A store over a connection that is opened over tables that were opened again. What refuses keeps the tables.
+/// A store over a connection that is opened over tables that were opened again. A refusal keeps the tables.
 pub(crate) fn found_over<S: FileTables>(
     alloc: Global,
     tables: S,

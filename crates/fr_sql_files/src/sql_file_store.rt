@@ -28,7 +28,7 @@ pub type SqlFileStore<D> = TableStore<FileStore<D>>;
 
 impl<D: FaithfulDisk + Drop> SqlFileStore<D> {
     /// An empty store in files that hold no table, with nothing applied. A crash on the way leaves files that hold
-    /// no table, or the whole empty store. What refuses drops the files.
+    /// no table, or the whole empty store. A refusal drops the files.
     ///
     /// # Errors
     ///
@@ -44,7 +44,7 @@ impl<D: FaithfulDisk + Drop> SqlFileStore<D> {
     }
 
     /// The store that files hold. The files are not trusted: the tables are compared with those of a store, and what
-    /// is none is refused, also files in which no store was made yet. What refuses drops the files.
+    /// is none is refused, also files in which no store was made yet. A refusal drops the files.
     ///
     /// # Errors
     ///
@@ -60,7 +60,7 @@ impl<D: FaithfulDisk + Drop> SqlFileStore<D> {
     }
 
     /// The store that files hold, or an empty one in files that hold no table yet, with nothing applied. The files are
-    /// not trusted: what holds something else is refused. What refuses drops the files.
+    /// not trusted: what holds something else is refused. A refusal drops the files.
     ///
     /// # Errors
     ///
@@ -82,7 +82,7 @@ impl<D: FaithfulDisk + Drop> SqlFileStore<D> {
         }
     }
 
-    /// Gives the files back, which then hold what the store did. What refuses drops the files.
+    /// Gives the files back, which then hold what the store did. A refusal drops the files.
     ///
     /// # Errors
     ///

@@ -83,7 +83,6 @@ fn over<S: FileTables>(
     }
 }
 
-/// Opens the tables of a store again.
 fn again<S: FileTables>(
     alloc: Global,
     link: Link<S, S::Kept>,
@@ -124,6 +123,8 @@ fn asked<S: FileTables>(
         Link::Open(store) => {
             let was_failed = store.is_failed();
             let answer = store.reopen(alloc);
+            // The connection is shut for good, so the files are opened again. Of a store that worked this fault is the
+            // answer.
             if was_failed && matches!(answer, Err(StoreFault::Device)) {
                 return None;
             }
@@ -312,6 +313,8 @@ impl<S: FileTables> ShardStore for TableStore<S> {
     fn reopen(&mut self, alloc: Global) -> Result<(), StoreFault> {
         match asked(&mut self.link, alloc) {
             Some(answer) => answer,
+            // Replaced as a whole, because taking a connection apart uses it up. What a refusal leaves is kept, so that
+            // a later call can try again.
             None => replace_with(&mut self.link, alloc, opened_again),
         }
     }

@@ -22,13 +22,13 @@ pub trait FileTables: Backing + Drop {
     /// The states of tables that a crash may leave of what is kept.
     ghost KeptLeaves: { Self.Kept → StoreState → Type 0 };
 
-    /// What is kept of tables, if their files list them by a store's own texts. What refuses gives the tables back.
+    /// What is kept of tables, if their files list them by a store's own texts. A refusal gives the tables back.
     fn apart(self) -> Result<Self::Kept, (StoreFault, Self)>
         ensures leaves { IfOk result (λ kept. LeavesNoMore (StoreLeaves Self.Store self) (KeptLeaves kept)) }
         ensures still { IfErr result (λ e. LeavesNoMore (StoreLeaves Self.Store self) (StoreLeaves Self.Store e.1)) }
         ensures trouble { IfErr result (λ e. IsTrouble MeetsAll e.0) };
 
-    /// Opens the tables again, with nothing of them under way. What refuses gives back what is kept.
+    /// Opens the tables again, with nothing of them under way. A refusal gives back what is kept.
     fn again(alloc: Global, kept: Self::Kept) -> Result<Self, (StoreFault, Self::Kept)>
         ensures fresh { IfOk result (λ tables. IsFresh (Self.Store.view tables)) }
         ensures leaves { IfOk result (λ tables. LeavesNoMore (KeptLeaves kept) (StoreLeaves Self.Store tables)) }
@@ -36,7 +36,6 @@ pub trait FileTables: Backing + Drop {
         ensures trouble { IfErr result (λ e. IsTrouble MeetsAll e.0) };
 }
 
-/// The fault of an open.
 fn open_fault(error: OpenError) -> StoreFault
     ensures { IsTrouble MeetsAll result }
 {
@@ -69,6 +68,7 @@ impl<D: FaithfulDisk + Drop> FileTables for FileStore<D> {
     /// device's fault.
     fn again(alloc: Global, kept: Kept<D>) -> Result<Self, (StoreFault, Kept<D>)> {
         let Kept { files, size } = kept;
+        // After a sync that failed the system may show bytes that are on no disk, so what is read proves nothing.
         if !files.may_be_used() {
             return Err((StoreFault::Device, Kept { files, size }));
         }

@@ -5,8 +5,8 @@ ghost use Rattle.sqlite_trees.specs.View.{IsClean};
 use sqlite::{Alter, FileStore, MemStore};
 use sqlite_disk::{Disk, Fuse, Memory};
 
-/// A store of tables that gives back what was written to it: memory, or files that nobody else writes on a
-/// disk that returns what was written.
+/// A store of tables that gives back the bytes that were written to it: memory, or files that nobody else writes, on a
+/// disk that returns written bytes.
 pub trait Backing: Alter {
     ghost clean: { (s : Self) → IsClean (Self.Store.view s) };
 }
@@ -17,7 +17,7 @@ impl Backing for MemStore {
     ghost clean = { memory_is_clean };
 }
 
-/// A disk that returns what was written to it, whenever it returns anything.
+/// A disk that returns the bytes that were written to it, whenever it returns any.
 pub trait FaithfulDisk: Disk {
     ghost faithful: { (d : Self) → IsTrue (Self.Disk.is_clean d) };
 }

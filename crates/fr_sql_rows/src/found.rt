@@ -45,13 +45,13 @@ fn versions_in(row: &Row) -> Result<Option<(Version, Version)>, Error>
     let (Some(applied), Some(floor)) = (version_of(applied), version_of(floor)) else {
         return Ok(None);
     };
+    // No store writes such a row, so the database is somebody else's, or damaged.
     if floor > applied {
         return Ok(None);
     }
     Ok(Some((applied, floor)))
 }
 
-/// The one row.
 fn only(rows: &[Row]) -> Option<&Row>
     ensures { IfSome result (λ row. rows.now ≡ row.now ∷ []) }
 {
@@ -61,7 +61,7 @@ fn only(rows: &[Row]) -> Option<&Row>
     Some(row)
 }
 
-/// The versions that the table of what the store has of itself shows.
+/// The versions in `meta`.
 fn show_meta<S: Backing>(conn: &mut Connection<S>) -> Result<Vec<Row>, Error>
     requires rest { IsAtRest (state S.Store conn.old) }
     requires obeys { ObeysStore (state S.Store conn.old).now }
@@ -72,7 +72,7 @@ fn show_meta<S: Backing>(conn: &mut Connection<S>) -> Result<Vec<Row>, Error>
     conn.query_all("SELECT applied, floor FROM meta", &[])
 }
 
-/// The version applied and the floor, if the table of what the store has of itself has one row, with versions.
+/// The version applied and the floor, if `meta` has one row, with versions.
 fn versions<S: Backing>(conn: &mut Connection<S>) -> Result<Option<(Version, Version)>, Error>
     requires rest { IsAtRest (state S.Store conn.old) }
     requires obeys { ObeysStore (state S.Store conn.old).now }
@@ -146,7 +146,7 @@ fn undo_rows<S: Backing>(
     count_between(rows.as_slice(), applied, floor)
 }
 
-/// What a store has of itself, if the tables are those of a store.
+/// The same, if the tables are those of a store.
 fn read<S: Backing>(conn: &mut Connection<S>) -> Result<Option<Found>, Error>
     requires rest { IsAtRest (state S.Store conn.old) }
     requires obeys { ObeysStore (state S.Store conn.old).now }
@@ -167,8 +167,8 @@ fn read<S: Backing>(conn: &mut Connection<S>) -> Result<Option<Found>, Error>
     }))
 }
 
-/// What a store has of itself, read from tables that obey their schema. Tables that are not those of a store are
-/// the device's fault: each is read once and compared with what a store keeps.
+/// A store's version applied, floor and number of undo rows, read from tables that obey their schema. Tables that are
+/// not those of a store are the device's fault: each is read once and compared with what a store keeps.
 pub fn find<S: Backing>(conn: &mut Connection<S>) -> Result<Found, StoreFault>
     requires rest { IsAtRest (state S.Store conn.old) }
     requires held { IsHeld (state S.Store conn.old).now }
@@ -177,6 +177,7 @@ pub fn find<S: Backing>(conn: &mut Connection<S>) -> Result<Found, StoreFault>
     ensures survives { CommitsNothing (state S.Store conn.old) (state S.Store conn.new) }
     ensures trouble { IfErr result (IsTrouble AnyTrouble) }
 {
+    // The schema before the rows: a row can only be read as what the schema says it is.
     if !is_store(conn.schema()) {
         return Err(StoreFault::Device);
     }

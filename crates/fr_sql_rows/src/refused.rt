@@ -176,7 +176,6 @@ impl Refusals {
         Refusals { device: 0, full: 0 }
     }
 
-    /// Counts a trouble, and gives its fault.
     fn count(&mut self, trouble: Trouble) -> StoreFault
         ensures fault { result ≡ trouble }
         ensures told { IsTold self.old self.new trouble }
@@ -201,7 +200,7 @@ impl Refusals {
     }
 }
 
-/// What sqlite answered.
+/// sqlite's answer. Here alone an error of it becomes a `Refused`.
 fn told<T>(answer: Result<T, Error>) -> Result<T, Refused>
     ensures { result ≡ answer }
 {

@@ -8,7 +8,6 @@ use crate::backing::Backing;
 use crate::refused::{Refused, commit, run};
 use sqlite::{Connection, Transaction};
 
-/// Makes the table of the keys.
 pub(crate) fn create_kv<S: Backing>(tx: &mut Transaction<'_, S>) -> Result<usize, Refused>
     requires inside { IsInside (state S.Store tx.old.conn.now) }
     requires schema { (state S.Store tx.old.conn.now).now.schema ≡ no_schema }
@@ -23,7 +22,6 @@ pub(crate) fn create_kv<S: Backing>(tx: &mut Transaction<'_, S>) -> Result<usize
     )
 }
 
-/// Makes the table of the undo rows.
 pub(crate) fn create_undo<S: Backing>(tx: &mut Transaction<'_, S>) -> Result<usize, Refused>
     requires inside { IsInside (state S.Store tx.old.conn.now) }
     requires schema { (state S.Store tx.old.conn.now).now.schema ≡ kv_schema }
@@ -38,7 +36,7 @@ pub(crate) fn create_undo<S: Backing>(tx: &mut Transaction<'_, S>) -> Result<usi
     )
 }
 
-/// Makes the table of what the store has of itself.
+/// Makes the table `meta`, which has the version applied, the floor and the state bytes of the store.
 pub(crate) fn create_meta<S: Backing>(tx: &mut Transaction<'_, S>) -> Result<usize, Refused>
     requires inside { IsInside (state S.Store tx.old.conn.now) }
     requires schema { (state S.Store tx.old.conn.now).now.schema ≡ two_schema }

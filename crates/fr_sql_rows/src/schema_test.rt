@@ -22,7 +22,6 @@ fn is_column(found: &Column, name: &[u8], kind: Kind, not_null: bool) -> bool
         && found.collation == Collation::Binary
 }
 
-/// Whether there are no terms.
 fn is_no_term(terms: &Terms) -> bool
     ensures { IsTrue result → terms.now ≡ [] }
 {
@@ -63,14 +62,12 @@ fn is_bare(found: &Table) -> bool
         && !found.is_counted
 }
 
-/// Whether these are the places.
 fn are_places(found: &Items<usize>, places: &[usize]) -> bool
     ensures { IsTrue result → found.now ≡ places.now }
 {
     found.as_slice() == places
 }
 
-/// Whether there is one key, of these places.
 fn is_one_key(found: &[Items<usize>], places: &[usize]) -> bool
     ensures { IsTrue result → found.now ≡ places.now ∷ [] }
 {
@@ -80,7 +77,6 @@ fn is_one_key(found: &[Items<usize>], places: &[usize]) -> bool
     are_places(key, places)
 }
 
-/// Whether there is one order, by bytes.
 fn is_one_order(found: &[Order]) -> bool
     ensures { IsTrue result → found.now ≡ by_bytes ∷ [] }
 {
@@ -109,7 +105,6 @@ fn are_kv_columns(found: &[Column]) -> bool
     is_column(k, b"k", Kind::Blob, true) && is_column(v, b"v", Kind::Blob, true)
 }
 
-/// Whether a table is that of the keys.
 fn is_kv(found: &Table) -> bool
     ensures { IsTrue result → found.now ≡ kv }
 {
@@ -147,7 +142,7 @@ fn is_undo(found: &Table) -> bool
         && is_bare(found)
 }
 
-/// Whether the columns are those of the table of what the store has of itself.
+/// Whether the columns are those of `meta`.
 fn are_meta_columns(found: &[Column]) -> bool
     ensures { IsTrue result → found.now ≡ meta.columns }
 {
@@ -160,7 +155,6 @@ fn are_meta_columns(found: &[Column]) -> bool
         && is_column(state, b"state", Kind::Blob, true)
 }
 
-/// Whether a table is that of what the store has of itself.
 fn is_meta(found: &Table) -> bool
     ensures { IsTrue result → found.now ≡ record meta { tree = 4 } }
 {
@@ -187,7 +181,6 @@ fn is_automatic(found: &Index, name: &[u8], tree: u32, table: u32, places: &[usi
         && found.is_unique
 }
 
-/// Whether the tables are those of a store.
 fn are_tables(found: &[Table]) -> bool
     ensures { IsTrue result → found.now ≡ own.tables }
 {
@@ -197,7 +190,6 @@ fn are_tables(found: &[Table]) -> bool
     is_kv(keys) && is_undo(rows) && is_meta(meta)
 }
 
-/// Whether the indexes are those of a store.
 fn are_indexes(found: &[Index]) -> bool
     ensures { IsTrue result → found.now ≡ own.indexes }
 {
@@ -217,14 +209,12 @@ fn is_own(found: &Schema) -> bool
         && found.views.is_empty()
 }
 
-/// Whether a schema is that of a store.
 pub(crate) fn is_store(found: &Schema) -> bool
     ensures { IsTrue result → found.now ≡ schema }
 {
     is_own(found)
 }
 
-/// Whether a schema has nothing.
 pub(crate) fn is_empty(found: &Schema) -> bool
     ensures { IsTrue result → found.now ≡ no_schema }
 {

@@ -105,7 +105,6 @@ pub fn drop_through<S: Backing>(
     )
 }
 
-/// The undo row that a row shows.
 fn undo_row(row: &Row) -> Result<((Version, Bytes), Option<Bytes>), Refused>
     ensures { IfOk result (λ shown. shown ≡ shown_row row.now) }
 {
@@ -165,7 +164,7 @@ fn before_shown(row: &Row) -> Result<Option<Bytes>, Refused>
     }
 }
 
-/// What a key held before the least version above one at which it has an undo row, if it has one there.
+/// A key's value before the least version above this one at which it has an undo row, if it has one there.
 pub fn first_above<S: Backing>(
     conn: &mut Connection<S>,
     key: &Bytes,

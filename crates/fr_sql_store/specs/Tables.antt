@@ -16,7 +16,7 @@ pub use Rattle.fr_sql_calls.specs.Tables.{state_in, applied_in, floor_in, Stands
 abbrev pub unknown : ℕ → ℕ → StoreState
 unknown applied floor = record { contents = map.empty; undo = map.empty; applied = applied; floor = floor; bytes = [] }
 
--- what a store shows: what its tables stand for, unless it failed
+-- the state that a store shows: the one that its tables stand for, unless it failed
 abbrev pub shown : Bool → State → ℕ → ℕ → StoreState
 shown true s applied floor = unknown applied floor
 shown false s applied floor = state_in s.now.trees

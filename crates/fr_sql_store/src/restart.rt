@@ -10,8 +10,8 @@ pub fn found_law<D: Disk, E: Disk>()
     ensures { FoundLaw D.Disk E.Disk }
 {}
 
-/// If a store works, and the files hold what a crash may leave of its own, they hold what it shows: each change that
-/// was acknowledged is found.
+/// If a store works, and the files hold what a crash may leave of its own, they hold the state that it shows: each
+/// acknowledged change is found.
 pub fn restart_law<D: Disk, E: Disk>()
     ensures { RestartLaw D.Disk E.Disk }
 {}

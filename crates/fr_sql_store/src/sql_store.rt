@@ -126,7 +126,6 @@ impl<S: Backing + Drop> SqlStore<S> {
     }
 }
 
-/// Whether a fault is the device's.
 fn is_device(fault: StoreFault) -> bool
     ensures { result ≡ is_device fault }
 {
@@ -166,6 +165,8 @@ impl<S: Backing> ShardStore for SqlStore<S> {
             return Err(StoreFault::Failed);
         }
         let held = value(&mut self.conn, &mut self.told, key);
+        // Only `Device`: after any other fault the connection is open, with the tables as before (invariant 6 of
+        // fr_sql_calls).
         self.is_failed = met_device(&held);
         held
     }
@@ -189,6 +190,7 @@ impl<S: Backing> ShardStore for SqlStore<S> {
         if self.is_failed {
             return Err(StoreFault::Failed);
         }
+        // Refusals come before anything is read, since they follow from the marks alone (invariant 4 of fr_sql_calls).
         if version < self.marks.floor {
             return Err(StoreFault::BelowFloor);
         }
@@ -248,6 +250,7 @@ impl<S: Backing> ShardStore for SqlStore<S> {
     }
 
     fn undo_rows(&self) -> usize {
+        // A failed store shows no state.
         if self.is_failed {
             return 0;
         }
@@ -265,6 +268,8 @@ impl<S: Backing> ShardStore for SqlStore<S> {
         if self.is_failed {
             return Err(StoreFault::Failed);
         }
+        // At the version applied stand undo rows of the batch before, so its own would meet them (invariant 5 of
+        // fr_sql_calls).
         if version <= self.marks.applied {
             return Err(StoreFault::NotAfter);
         }
@@ -277,6 +282,8 @@ impl<S: Backing> ShardStore for SqlStore<S> {
             batch,
         ) {
             Ok(rows) => {
+                // Once the transaction is committed: before that, the marks would be those of no tables (invariant 4 of
+                // fr_sql_calls).
                 self.marks = Marks {
                     applied: version,
                     floor: self.marks.floor,
@@ -305,6 +312,7 @@ impl<S: Backing> ShardStore for SqlStore<S> {
         if version < self.marks.floor {
             return Err(StoreFault::BelowFloor);
         }
+        // There is nothing to take back, so no transaction is made, and no sync.
         if version >= self.marks.applied {
             return Ok(());
         }
@@ -376,6 +384,7 @@ impl<S: Backing> ShardStore for SqlStore<S> {
         if version > self.marks.applied {
             return Err(StoreFault::AboveApplied);
         }
+        // Nothing is left to forget, so no transaction is made, and no sync.
         if version <= self.marks.floor {
             return Ok(());
         }
@@ -425,6 +434,8 @@ impl<S: Backing> ShardStore for SqlStore<S> {
         ensures told { IfErr result (IsTold self.old self.new) }
     {
         if self.is_failed {
+            // Asked again, because it may work after all. If not, its files have to be opened again, which fr_sql_files
+            // does.
             self.told.told(probe(&mut self.conn))?;
             self.is_failed = false;
         }

@@ -36,6 +36,7 @@ impl Generation {
         ensures value { IfSome result (λ g. g ≡ record { epoch = epoch; m = m; k = k; first = first; seeded_to = seeded_to }) }
     {
         let is_held = 1 <= k && k <= m && m <= 16;
+        // Version 0 is below every commit. A generation that took nothing over starts right above `seeded_to`.
         let is_seeded = 1 <= first.get() && first.get() <= seeded_to.get() + 1;
         if is_held && is_seeded {
             Some(Generation {
@@ -89,6 +90,8 @@ impl Generation {
     pub(crate) fn may_precede(self, next: Generation) -> bool
         ensures { result ≡ may_follow self next }
     {
+        // Only the epoch has to be greater: a generation may end before anything was committed in it, so its numbers
+        // may stay.
         self.epoch < next.epoch && self.first <= next.first && self.seeded_to <= next.seeded_to
     }
 }

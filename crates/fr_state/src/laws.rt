@@ -48,7 +48,9 @@ pub fn owner_law()
     ensures none { OwnerIsNone }
 {}
 
-/// A list and a longer one that begins with it agree on what lies within the shorter one.
+/// A list and a longer one that begins with it agree on what lies within the shorter one. They name the same source of
+/// a version through the end of the shorter one's last generation. The owner, the generation that numbered the version,
+/// they share through that generation's cut alone: beyond it the next generation numbered anew.
 pub fn front_law()
     ensures end { FrontKeepsEnd }
     ensures cut { FrontKeepsCut }

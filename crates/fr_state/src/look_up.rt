@@ -14,7 +14,6 @@ pub(crate) fn next_of(gens: &[Generation], epoch: Epoch) -> Option<Generation>
     gens.get(at + 1).copied()
 }
 
-/// The index of the generation of an epoch.
 pub(crate) fn place_of(gens: &[Generation], epoch: Epoch) -> Option<usize>
     ensures place { result ≡ position (λ g. g.epoch == epoch) gens.now }
     ensures within { IfSome result (λ at. at < length gens.now) }
@@ -26,6 +25,7 @@ pub(crate) fn place_of(gens: &[Generation], epoch: Epoch) -> Option<usize>
 pub(crate) fn source_for(gens: &[Generation], version: u64) -> Option<Generation>
     ensures { result ≡ source_of gens.now version }
 {
+    // From the newest on: the ones before it end where it starts, and so do not have the version.
     gens.iter()
         .rev()
         .copied()

@@ -49,6 +49,7 @@ fn state_of(alloc: Global, bytes: &[u8]) -> Result<CoordState, StateDecodeFault>
     if rest.len() < end {
         return Err(StateDecodeFault::Short);
     }
+    // All bytes are judged before any memory is taken, so bad bytes are never called out of memory.
     if !are_left(dropped, count, rest) {
         return Err(StateDecodeFault::BadForm);
     }
@@ -83,6 +84,7 @@ fn dropped(bytes: &[u8]) -> Result<(u64, &[u8]), StateDecodeFault>
         return Err(StateDecodeFault::Short);
     }
     match number(bytes, 0) {
+        // Format 1 is for these: otherwise a state would have two spellings, and a cell could hold either.
         0 => Err(StateDecodeFault::BadForm),
         dropped => Ok((dropped, &bytes[8..])),
     }
@@ -109,6 +111,7 @@ fn are_left(dropped: u64, count: usize, bytes: &[u8]) -> bool
     requires room { 26 * count ≤ length bytes.now }
     ensures { result ≡ are_left dropped (generations_at count bytes.now) }
 {
+    // Epochs rise from 1 on, so fewer were before the first one than its number says.
     is_list(count, bytes) && dropped < number(bytes, 0)
 }
 

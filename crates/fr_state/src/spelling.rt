@@ -25,6 +25,7 @@ pub fn encode(alloc: Global, state: &CoordState) -> Result<Vec<u8>, Memory>
     ensures fits { IfOk result (λ bytes. length bytes.items ≤ 4096) }
 {
     let gens = state.gens();
+    // Room for the longer format, so that nothing is moved later.
     let mut bytes = start(alloc, state.dropped(), 10 + ROW * gens.len())?;
     bytes.push(gens.len() as u8)?;
     for generation in gens {
@@ -47,7 +48,6 @@ fn start(alloc: Global, dropped: u64, room: usize) -> Result<Vec<u8>, Memory>
     Ok(bytes)
 }
 
-/// Appends the 26 bytes of a generation.
 #[tactic(auto, unfolding(crate::specs::Spelling::row))]
 fn push_row(bytes: &mut Vec<u8>, generation: Generation) -> Result<(), Memory>
     ensures { OnOk result (bytes.new.items ≡ bytes.old.items ++ row generation) }

@@ -90,6 +90,7 @@ impl CoordState {
         ensures too_many { (result ≡ Err StateFault.TooMany) ↔ (AreOrdered (self.old.gens ++ generation ∷ []) × (length self.old.gens ≡ 64)) }
         ensures err { OnErr result (self.new ≡ self.old) }
     {
+        // Tested first: a recoverer whose ballot is too low must not be told to wait for pops.
         if !self.last().may_precede(generation) {
             return Err(StateFault::NotLater);
         }
@@ -121,12 +122,12 @@ impl CoordState {
         ensures { self.new ≡ without_first self.old number }
     {
         let left = self.gens.len() - number;
+        // Turned and cut in place, so that it takes no memory: to drop generations cannot fail.
         self.gens.rotate_left(number);
         self.gens.truncate(left);
         self.dropped += number as u64;
     }
 
-    /// Whether the same generations are left.
     fn has_gens(&self, other: &CoordState) -> bool
         ensures { result ≡ pointwise is_same_generation self.now.gens other.now.gens }
     {
@@ -170,6 +171,7 @@ impl CoordState {
             return false;
         }
         let more = self.dropped - own.dropped;
+        // If none of the other's is left, nothing shows where its versions were cut.
         if own.gens.len() as u64 <= more {
             return false;
         }

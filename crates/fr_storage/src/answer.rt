@@ -30,7 +30,7 @@ impl LogAnswer {
     }
 }
 
-/// What a storage server asks a log of the newest epoch: for its mark.
+/// A storage server's ask to a log of the newest epoch: for its mark.
 pub fn mark_ask(epoch: Epoch) -> LogAsk
     ensures { result ≡ mark_ask epoch }
 {

@@ -1,4 +1,4 @@
-//! A storage server, and what it tells of itself.
+//! A storage server, and its state as others see it.
 ghost use Rattle.std.specs.Prelude.{◌≡◌, ◌≢◌, ◌↔◌, ◌||◌, [], Err, IfOk, IfErr, OnErr, IfSome, IsTrue};
 ghost use Rattle.std.specs.FinMap as map;
 ghost use Rattle.fr_undo.specs.Calls.{IsTrouble, StaysUnlessFailed, LeavesNoMore};
@@ -121,7 +121,7 @@ impl<S: ShardStore> Storage<S> {
         (epoch, ask)
     }
 
-    /// What it asks a log of an epoch that has its tag: to let go of what it has for good.
+    /// Asks a log of an epoch to free the records of its tag that the server has for good.
     pub fn pop_ask(&self, epoch: Epoch) -> LogAsk
         ensures { result ≡ pop_ask epoch self.now.tag self.now.floor }
     {

@@ -15,10 +15,10 @@ use fr_state::{CoordState, equal_law, spelling_law};
 use fr_undo::{ShardStore, StoreFault};
 use std::alloc::Global;
 
-/// Tells a storage server what a log of an epoch has of its tag, as [`Storage::hear_peeked`] does. If a call of its
-/// store fails in it, the server is opened again, and answered is at which version the hear broke off; None if
-/// nothing of it is missing. What the server refuses changes nothing, and breaks off nowhere. It is failed afterwards
-/// only if it could not be opened again.
+/// Hands a storage server a log's records of its tag, as [`Storage::hear_peeked`] does. If a call of its store fails in
+/// it, the server is opened again, and the answer is the version at which the hear broke off; None if nothing of it is
+/// missing. A refused answer changes nothing, and breaks off nowhere. The server is failed afterwards only if it could
+/// not be opened again.
 pub fn take_peeked<S: ShardStore>(
     alloc: Global,
     storage: &mut Storage<S>,

@@ -40,8 +40,8 @@ HeldTagsHaveTheirClips =
     (begins : List (List ℕ)) (batch : List Mutation) (m k log t : ℕ) → log < m → t < length begins →
     batch_of t (bodies_at begins batch m k log) ≡ (if is_held t m k log then filled (clipped batch (shard_at begins t)) else None)
 
--- what the clips of batches to a shard make, one after the other, of the shard's part of a map is that part of what the
--- batches make of the map
+-- the clips of batches to a shard, one after the other, change the shard's part of a map into that part of the map after
+-- the batches
 abbrev pub ClipsMakeThePart : Type 0
 ClipsMakeThePart =
     (m : Map) (batches : List (List Mutation)) (s : Shard) → fold after (part m s) (map (λ batch. clipped batch s) batches) ≡ part (fold after m batches) s

@@ -4,8 +4,8 @@ ghost use Rattle.std.specs.Prelude.{◌≡◌, IfOk};
 use fr_base::{Memory, Tag};
 use fr_mutation::Batch;
 
-/// What a commit changes of one shard: the shard's tag, and the commit's batch as far as it acts on keys
-/// of that shard. A split makes bodies, and a push brings them to a log.
+/// A commit's part for one shard: the shard's tag, and the commit's batch as far as it acts on keys of that shard. A
+/// split makes bodies, and a push brings them to a log.
 #[derive(Clone, Debug, Drop, PartialEq, Eq)]
 pub struct Body {
     pub tag: Tag,

@@ -34,8 +34,8 @@ pub fn split_law()
     ensures clips { HeldTagsHaveTheirClips }
 {}
 
-/// Applying the clips of all batches to a shard gives the shard's part of what the batches make,
-/// with or without the empty clips.
+/// Applying the clips of all batches to a shard gives the shard's part of the batches' result, with or without the
+/// empty clips.
 pub fn shard_fold_law()
     ensures part { ClipsMakeThePart }
     ensures empty { ClipsMakeThePartFromNothing }

@@ -78,7 +78,6 @@ impl ShardMap {
         }
     }
 
-    /// The shard of a number.
     pub(crate) fn shard_at(&self, alloc: Global, number: usize) -> Result<Shard, Memory>
         requires { number < length self.now }
         ensures shard { IfOk result (λ shard. shard ≡ shard_at self.now number) }
@@ -98,6 +97,7 @@ impl ShardMap {
         ensures tag { result ≡ tag_of self.now key.now }
         ensures within { result < length self.now }
     {
+        // The first shard begins at the empty key, so at least one begins at or below every key.
         tag_at(begun(self.begins(), key) - 1)
     }
 
@@ -142,7 +142,6 @@ impl Clone for ShardMap {
     }
 }
 
-/// The first fault of begins.
 fn fault_of(begins: &[Bytes]) -> Option<ShardFault>
     ensures { result ≡ shard_fault begins.now }
 {
@@ -194,6 +193,7 @@ fn begun_before(begins: &[Bytes], key: &Bytes) -> usize
     ensures count { result ≡ begun_before begins.now key.now }
     ensures within { result ≤ length begins.now }
 {
+    // Below and not at it, because `end` itself is not cleared.
     begins.partition_point(|begin| begin.cmp(key).is_lt())
 }
 
@@ -204,6 +204,7 @@ fn shards_between(begins: &[Bytes], begin: &Bytes, end: &Bytes) -> Range<usize>
     ensures within { result.end ≤ length begins.now }
     ensures each { (t : ℕ) → t < length begins.now → meets_range begin.now end.now (shard_at begins.now t) ≡ is_from_to result.start result.end t }
 {
+    // A clear of no key acts in no shard, and the shard of its begin would be one too many.
     if begin.cmp(end).is_lt() {
         begun(begins, begin) - 1..begun_before(begins, end)
     } else {

@@ -41,6 +41,7 @@ pub fn covers(m: u8, k: u8, logs: &[u8]) -> bool
     requires limit { m ≤ MAX_LOGS }
     ensures { result ≡ placement.covers m k logs.now }
 {
+    // Counted over the logs and not over the list: an index that is there twice must not stand for a missing log.
     let count = (0..m).filter(|log| logs.contains(log)).count();
     count > usize::from(m - k)
 }

@@ -7,7 +7,7 @@ pub enum TailFault {
     /// The log did not reply to its lock, it does not hold the tag, or there is no such tag.
     #[error("NotResponder")]
     NotResponder,
-    /// The answer begins above what is copied of the tag.
+    /// The answer begins above the copied part of the tag.
     #[error("Hole")]
     Hole,
     /// The answer begins at the end of the copy of the tag, and brings it no further.

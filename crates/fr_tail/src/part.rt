@@ -33,14 +33,14 @@ impl TagCopy {
         }
     }
 
-    /// The version through which is copied.
+    /// The version through which the tag is copied.
     pub(crate) fn reached(&self) -> Version
         ensures { result ≡ self.now.reached }
     {
         self.reached
     }
 
-    /// What is copied, by version.
+    /// The copied records, by version.
     pub(crate) fn records(&self) -> &[PeekedRecord]
         ensures { result.now ≡ self.now.records }
     {
@@ -54,15 +54,17 @@ impl TagCopy {
         ensures err { OnErr result (self.new ≡ self.old) }
         ensures free { filter (λ r. nat_le r.version rv) peeked.records ≡ [] → IsOk result }
     {
+        // An answer may come further than `rv`: what is above was never acknowledged, and its versions are given anew
+        // (invariant 2).
         let reached = earlier(peeked.upto(), rv);
         let mut records = peeked.into_records();
         records.retain(|record| record.version <= rv);
+        // Before the copy counts as come further, since this can run out of memory (invariant 4).
         self.records.append(&mut records)?;
         self.reached = reached;
         Ok(())
     }
 
-    /// An equal copy of the tag.
     pub(crate) fn copy(&self, alloc: Global) -> Result<Self, Memory>
         ensures { IfOk result (λ copy. copy ≡ self.now) }
     {
@@ -77,7 +79,6 @@ impl TagCopy {
     }
 }
 
-/// The lesser of two versions.
 fn earlier(a: Version, b: Version) -> Version
     ensures { result ≡ min a b }
 {

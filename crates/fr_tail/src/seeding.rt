@@ -36,6 +36,7 @@ impl Tail {
     {
         let mut taken = [0; MAX_SHARDS];
         for number in 0..self.parts.len() {
+            // By the new generation's shape, which need not be the one of the logs that were copied from (invariant 5).
             if !is_held(tag_at(number), shape.m(), shape.k(), log) {
                 taken[number] = self.parts[number].records().len();
             }
@@ -49,6 +50,7 @@ impl Tail {
     {
         let mut taken = taken;
         let mut records = Vec::new(alloc);
+        // A merge, because each tag is sorted already, and a seed has one order that logs compare (invariant 5).
         while let Some((_, number)) = self.least(&taken) {
             let record = &self.parts[number].records()[taken[number]];
             records.push(SeedRecord {
@@ -83,6 +85,7 @@ fn lesser(least: Option<(Version, usize)>, version: Version, number: usize) -> (
 {
     match least {
         Some((other, before)) => {
+            // Of equal versions the lower tag stays first: it was met first (invariant 5).
             if version < other {
                 (version, number)
             } else {
@@ -93,7 +96,6 @@ fn lesser(least: Option<(Version, usize)>, version: Version, number: usize) -> (
     }
 }
 
-/// The tag of this number.
 fn tag_at(number: usize) -> Tag
     requires { number < MAX_SHARDS }
     ensures { result ≡ number }

@@ -74,32 +74,38 @@ impl Tail {
         })
     }
 
-    /// Hears what the log of this number answered to a peek of a tag. The records of an answer that goes
-    /// on from what is copied are moved in, those above `rv` left out. An answer that begins below what
-    /// is copied changes nothing, nor does any once the tag is complete.
+    /// Hears a log's answer to a peek of a tag. The records of an answer that begins where the copy ends are moved in,
+    /// those above `rv` left out. An answer that begins below the end of the copy changes nothing, nor does any once
+    /// the tag is complete.
     pub fn hear(&mut self, index: u8, tag: Tag, peeked: Peeked) -> Result<(), TailFault>
         ensures ok { IfOk result (λ _. heard self.old index tag peeked ≡ Ok self.new) }
         ensures refused { IfErr result (IsRefusal self.old index tag peeked) }
         ensures kept { OnErr result (self.new ≡ self.old) }
     {
+        // Only logs that replied to the lock count: another one may have taken pushes since (invariant 1).
         if !self.is_responder(index, tag) {
             return Err(TailFault::NotResponder);
         }
         let number = usize::from(tag.get());
         let reached = self.parts[number].reached();
+        // A copy with a hole would lose records without anybody seeing it (invariant 3).
         if reached < peeked.after() {
             return Err(TailFault::Hole);
         }
+        // A repeat, or more than is wanted. It is no fault, since requests are sent again until they are answered
+        // (invariant 3).
         if peeked.after() < reached || self.rv <= reached {
             return Ok(());
         }
+        // A true log comes further at each turn up to its `durable`, which is not below `rv` (invariant 2). To take
+        // this answer would ask the same again for ever.
         if peeked.upto() <= peeked.after() {
             return Err(TailFault::ShortOfEnd);
         }
         self.take(number, peeked).map_err(|_| TailFault::Memory)
     }
 
-    /// Takes an answer that goes on from what is copied of a tag.
+    /// Takes an answer that begins where the copy of the tag ends.
     fn take(&mut self, number: usize, peeked: Peeked) -> Result<(), Memory>
         requires tag { number < length self.old.parts }
         requires sound { IsPeeked peeked }
@@ -129,6 +135,7 @@ impl Tail {
         ensures sound { IsTail self.now }
     {
         let rv = self.rv;
+        // All tags, also those with no record: `reached` says that none is left out (invariant 3).
         self.parts.iter().all(|part| part.reached() == rv)
     }
 

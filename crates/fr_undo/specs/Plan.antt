@@ -30,7 +30,7 @@ pub record IsPlan (plan : Plan) : Type 0 where
 abbrev pub IsNext : Plan → List ℕ → Type 0
 IsNext plan key = (plan.tree.entries ≡ []) × AllByRecursion (λ k. bytes_cmp k key ≡ Less) (keys_of plan.rising.items)
 
--- what a key holds once a plan is carried out, of what it held
+-- a key's value once a plan is carried out, from its old one
 abbrev pub value_planned : Plan → (List ℕ → Option (List ℕ)) → List ℕ → Option (List ℕ)
 value_planned plan held q = unwrap_or (planned plan q) (held q)
 
@@ -39,7 +39,7 @@ abbrev pub change_by : Option (List ℕ) → Option (Option (List ℕ)) → Opti
 change_by held None = None
 change_by held (Some after) = Some (record { before = held; after = after })
 
--- what a key held, by what is planned of it, if it is to hold something else
+-- a key's old value, from what is planned of it, if that changes it
 abbrev pub row_planned : Option (List ℕ) → Option (Option (List ℕ)) → Option (Option (List ℕ))
 row_planned held None = None
 row_planned held (Some after) = before_if_changed held after
@@ -49,11 +49,11 @@ abbrev pub acted : {X : Type 0} → (X → Option (List ℕ) → Option (List �
 acted act None old = old
 acted act (Some x) old = act x old
 
--- what a key holds once values are given and none is taken, of what it is to hold and what it held
+-- a key's value once values are given and none is taken, from its planned and its old one
 abbrev pub given : Option (List ℕ) → Option (List ℕ) → Option (List ℕ)
 given after old = option_or after old
 
--- what becomes of a key then, of what it held and what it is to hold
+-- a key's fate, from its old and its planned value
 abbrev pub fate_of : Option (List ℕ) → Option (List ℕ) → Fate
 fate_of old None = Leaves
 fate_of old (Some value) = if same_value old (Some value) then Stays else Took old

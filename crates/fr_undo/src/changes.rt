@@ -19,13 +19,13 @@ use std::collections::BTreeMap;
 /// A key's fate, from its old and its new value.
 #[derive(Debug, Drop)]
 pub struct Change {
-    /// What it holds before: a value, or none.
+    /// Its old value, or none.
     pub before: Option<Bytes>,
-    /// What it takes: a value, or none.
+    /// Its new value, or none.
     pub after: Option<Bytes>,
 }
 
-/// A plan with what each of its keys holds before.
+/// A plan, with the old value of each of its keys.
 pub(crate) fn changes_by(
     alloc: Global,
     contents: &BTreeMap<Bytes, Bytes>,

@@ -114,7 +114,7 @@ impl RowIndex {
         self.places.remove(&(key, version));
     }
 
-    /// Promises no more of versions above one.
+    /// Takes back what is promised of versions above this one.
     pub(crate) fn go_back(&mut self, version: Version)
         ensures places { self.new.places ≡ self.old.places }
         ensures through { (self.new.through ≤ version) × (self.new.through ≤ self.old.through) }

@@ -22,7 +22,7 @@ use std::cmp::Ordering;
 use std::collections::btree_map::{BTreeMap, Entry};
 use std::mem::replace;
 
-/// Keys with what each is to hold: a value, or none.
+/// Keys with their planned values; none for a key that is to go.
 pub(crate) type Entries = Vec<(Bytes, Option<Bytes>)>;
 
 /// What each key is to hold: a value, or none. Keys that come in order are kept in a list, which takes
@@ -101,7 +101,7 @@ impl Plan {
     }
 }
 
-/// Plans what a key is to hold, if nothing is planned of it yet.
+/// Plans a key's value, if nothing is planned of it yet.
 pub(crate) fn add(
     alloc: Global,
     plan: &mut Plan,
@@ -129,7 +129,7 @@ pub(crate) fn add(
     }
 }
 
-/// Plans what a key is to hold, whatever was planned of it.
+/// Plans a key's value, whatever was planned of it before.
 fn set(alloc: Global, plan: &mut Plan, key: Bytes, after: Option<Bytes>) -> Result<(), Memory>
     requires { IsPlan plan.old }
     ensures plan { OnOk result (IsPlan plan.new) }
@@ -144,7 +144,7 @@ fn set(alloc: Global, plan: &mut Plan, key: Bytes, after: Option<Bytes>) -> Resu
     Ok(())
 }
 
-/// What a key holds, outside of ranges that are cleared, lent.
+/// A key's value, lent, unless a cleared range has the key.
 fn held_outside<'a>(
     contents: &'a BTreeMap<Bytes, Bytes>,
     cleared: &[(Bytes, Bytes)],
@@ -159,7 +159,7 @@ fn held_outside<'a>(
     }
 }
 
-/// Plans what a mutation makes of the value that its key has by the plan so far.
+/// Plans a mutation's result on the value that its key has by the plan so far.
 fn combine(
     alloc: Global,
     contents: &BTreeMap<Bytes, Bytes>,
@@ -216,7 +216,7 @@ fn keys_between(
     Ok(keys)
 }
 
-/// Drops what is planned of the keys from `begin` up to `end`.
+/// Drops the plans of the keys from `begin` up to `end`.
 fn drop_between(alloc: Global, plan: &mut Plan, begin: &Bytes, end: &Bytes) -> Result<(), Memory>
     requires plan { IsPlan plan.old }
     requires forward { is_lt (bytes_cmp begin.now end.now) ≡ true }

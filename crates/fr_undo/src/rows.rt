@@ -132,7 +132,7 @@ fn count_before(rows: &VecDeque<Row>, version: Version, key: &Bytes) -> usize
     rows.partition_point(|row| is_before(row, version, key))
 }
 
-/// A copy of what a key held before a version at which it has a row.
+/// A copy of a key's value before a version at which it has a row.
 pub(crate) fn held_before(
     rows: &VecDeque<Row>,
     version: Version,

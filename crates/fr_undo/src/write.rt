@@ -13,10 +13,10 @@ use std::alloc::Global;
 use std::collections::BTreeMap;
 use std::collections::btree_map::Entry;
 
-/// What became of a key of a plan.
+/// The fate of a key of a plan.
 #[derive(Drop)]
 pub(crate) enum Fate {
-    /// It held what it is to hold.
+    /// Its value stays.
     Stays,
     /// It took its value, and held this before.
     Took(Option<Bytes>),
@@ -56,7 +56,7 @@ fn give_one(
     }
 }
 
-/// Gives the keys of a plan their values, and notes what became of each. Out of memory a front of
+/// Gives the keys of a plan their values, and notes the fate of each. Out of memory a front of
 /// them has theirs.
 fn give_all(
     contents: &mut BTreeMap<Bytes, Bytes>,
@@ -82,7 +82,7 @@ fn give_all(
     Ok(())
 }
 
-/// Gives a key back what it held before it took its value.
+/// Gives a key its old value back.
 fn take_back_one(contents: &mut BTreeMap<Bytes, Bytes>, key: &Bytes, fate: Fate)
     requires { HasPlace fate (tree.get bytes_cmp contents.old key.now) }
     ensures { (q : List ℕ) → tree.get bytes_cmp contents.new q
@@ -103,7 +103,7 @@ fn take_back_one(contents: &mut BTreeMap<Bytes, Bytes>, key: &Bytes, fate: Fate)
     }
 }
 
-/// Gives all keys back what they held.
+/// Gives all keys their old values back.
 fn take_back(contents: &mut BTreeMap<Bytes, Bytes>, fates: Vec<(Bytes, Fate)>)
     requires order { IsStrictlySortedBy bytes_cmp (keys_of fates.items) }
     requires places { (q : List ℕ) → IfSome (lookup (is_at (bytes_cmp q)) fates.items) (λ fate. HasPlace fate (tree.get bytes_cmp contents.old q)) }

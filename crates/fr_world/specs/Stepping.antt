@@ -27,6 +27,6 @@ RefusesTurn turn result = IfErr result (λ why. (why ≢ not_enabled.Memory → 
 abbrev pub Refuses : WorldState → Event → Result Answer NotEnabled → Type 0
 Refuses old event result = RefusesTurn (next_turn old event) result
 
--- why a node that is told nothing hears nothing
+-- the reason why a node that was sent no reply hears none
 abbrev pub why_unheard : WorldState → NodeId → NotEnabled
 why_unheard w who = unwrap_or (why_not_up w who) not_enabled.NeverSent

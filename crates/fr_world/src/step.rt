@@ -137,7 +137,7 @@ fn happen(alloc: Global, nodes: &mut Nodes, keeps: bool, event: Event) -> Result
     }
 }
 
-/// A tell comes to a node. Cells, logs and sequencers are told nothing.
+/// A reply comes to a node. Cells, logs and sequencers send no requests, so they hear none.
 fn heard(
     alloc: Global,
     nodes: &mut Nodes,

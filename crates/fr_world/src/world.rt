@@ -47,7 +47,7 @@ impl Model for World {
     ghost invariant = { λ w. IsKept w.nodes.value };
 }
 
-/// Says what is promised of the nodes, and does nothing.
+/// Says the promises of the nodes, and does nothing.
 fn is_safe(kept: &Nodes)
     requires { IsKept kept.now }
     ensures { IsSafe (state_of kept.now).config (state_of kept.now).turns }
@@ -67,10 +67,10 @@ impl World {
         })
     }
 
-    /// Makes the turn that an event is, adds it to what happened, and answers what it gave. An event that cannot
-    /// happen is refused, for the first reason in the order of `NotEnabled`, and changes nothing. Out of memory it
-    /// changes nothing either; that is answered only for an event that can happen. [`World::is_safe`] says what is
-    /// promised of the world that it leaves, whose committed list begins with that of the world before.
+    /// Makes the turn of an event, adds it to the history, and answers its result. An event that cannot happen is
+    /// refused, for the first reason in the order of `NotEnabled`, and changes nothing. Out of memory it changes
+    /// nothing either; that is answered only for an event that can happen. [`World::is_safe`] says what is promised of
+    /// the world that it leaves, whose committed list begins with that of the world before.
     pub fn step(&mut self, alloc: Global, event: Event) -> Result<Answer, NotEnabled>
         ensures turn { Steps self.old self.new event result }
         ensures refused { Refuses self.old event result }
@@ -192,7 +192,7 @@ impl World {
         self.nodes.last_of(alloc, &node)
     }
 
-    /// What happened, the oldest first: each event with the asks and the answer that it gave.
+    /// The history, the oldest turn first: each event with the asks and the answer that it gave.
     pub fn turns(&self) -> &[Turn]
         ensures { history_of result.now ≡ self.now.turns }
     {

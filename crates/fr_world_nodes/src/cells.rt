@@ -21,6 +21,7 @@ pub fn ask_cell(
     ensures cells { OnOk result (cells.new.items ≡ slice_set cells.old.items index (next_of (slice_index_or cells.old.items index fresh_cell) ask)) }
     ensures err { OnErr result (cells.new ≡ cells.old) }
 {
+    // A copy is asked, and put in once nothing can fail any more: out of memory the world has to be as it was.
     let mut cell = cells[index].copy()?;
     let kept = cell.step(alloc, ask)?;
     let handed = kept.copy()?;

@@ -59,6 +59,7 @@ fn ask(alloc: Global, log: &mut Log, ask: LogAsk) -> Result<Told<LogTell>, Memor
     ensures err { OnErr result (log.new ≡ log.old) }
 {
     place_law();
+    // A place and not a copy, because a log may be long, and an ask changes little of it.
     let place = log.place()?;
     let kept = log.keep(alloc, ask)?;
     match kept.copy() {

@@ -87,6 +87,7 @@ impl Nodes {
             return self.config.logs();
         }
         match self.recoverers.get(&epoch.ballot()) {
+            // Logs are there from their seeds on, which are sent before the state is written.
             Some(recoverer) => logs_in(recoverer),
             None => 0,
         }
@@ -101,6 +102,7 @@ impl Nodes {
             return true;
         }
         match self.recoverers.get(&epoch.ballot()) {
+            // Sequencer and proxies begin once the state is chosen: before that the epoch may never come to be.
             Some(recoverer) => recoverer.is_chosen(),
             None => false,
         }

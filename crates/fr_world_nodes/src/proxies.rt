@@ -32,7 +32,7 @@ pub fn keep_proxy(
     }
 }
 
-/// Gives a batch to a proxy that was made and takes it; answers what it asks. It takes no memory.
+/// Gives a batch to a proxy that was made and takes it; answers the proxy's ask. It takes no memory.
 pub fn submit(
     proxies: &mut BTreeMap<(Epoch, u8), Proxy>,
     id: (Epoch, u8),

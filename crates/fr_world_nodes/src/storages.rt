@@ -22,9 +22,9 @@ use fr_storage::{ReadFault, Storage, StorageFault};
 use fr_undo::MapStore;
 use std::alloc::Global;
 
-/// Tells a server what a node told, which changes it only if a log did, and answers why it refuses that. Out of memory
-/// a server that is kept is as it was, since a copy is told first; another may be left failed, with a part of what it
-/// heard.
+/// Hands a server a node's reply, which changes it only if it is a log's, and answers why the server refuses that. Out
+/// of memory a server that is kept is as it was, since a copy hears it first; another may be left failed, with a part
+/// of the reply.
 pub fn tell_server(
     alloc: Global,
     keeps: bool,
@@ -38,6 +38,7 @@ pub fn tell_server(
     ensures works { OnOk result (server.new.failed ≡ false) }
     ensures err { keeps ≡ true → OnErr result (server.new ≡ server.old) }
 {
+    // A world that is given up with the event needs no copy of a server with all its rows.
     if !keeps {
         return told(alloc, server, from, tell);
     }
@@ -47,7 +48,7 @@ pub fn tell_server(
     Ok(fault)
 }
 
-/// Tells a server what a node told, and answers why it refuses that. Out of memory it may be left failed.
+/// Hands a server a node's reply, and answers why it refuses that. Out of memory it may be left failed.
 fn told(
     alloc: Global,
     server: &mut Storage<MapStore>,
@@ -65,8 +66,7 @@ fn told(
     }
 }
 
-/// Tells a server what a log of an epoch told it, and answers why it refuses that. Out of memory the server may be
-/// left failed.
+/// Hands a server a log's reply, and answers why it refuses that. Out of memory the server may be left failed.
 fn hear(
     alloc: Global,
     server: &mut Storage<MapStore>,
@@ -95,12 +95,13 @@ fn refusal(heard: Result<(), StorageFault>) -> Result<Option<StorageFault>, Memo
 {
     match heard {
         Ok(()) => Ok(None),
+        // A store in memory fails for want of memory alone.
         Err(StorageFault::Store(_)) => Err(Memory),
         Err(fault) => Ok(Some(fault)),
     }
 }
 
-/// What the server of a shard answers a read of a key at a version. It stays as it is.
+/// The answer of a shard's server to a read of a key at a version. The server stays as it is.
 pub fn read_server(
     alloc: Global,
     server: &mut Storage<MapStore>,
@@ -127,7 +128,7 @@ pub fn may_break(server: &Storage<MapStore>, from: &NodeId, tell: &Tell, version
     }
 }
 
-/// Whether a server's hear of what a log of an epoch told it can break off at a version.
+/// Whether a server's hear of a log's reply can break off at a version.
 fn breaks_in(server: &Storage<MapStore>, epoch: Epoch, tell: &LogTell, version: Version) -> bool
     requires { server.now.failed ≡ false }
     ensures { result ≡ breaks_in (server_of server.now) epoch (told.Log tell.now) version }
@@ -165,8 +166,8 @@ pub fn break_server(
     if is_broken { Ok(()) } else { unreachable!() }
 }
 
-/// Tells a server what a node told it, and breaks off at a version; answers whether it can. Out of memory the server
-/// may be left failed.
+/// Hands a server a node's reply, and breaks off at a version; answers whether it can. Out of memory the server may be
+/// left failed.
 fn break_from(
     alloc: Global,
     server: &mut Storage<MapStore>,
@@ -187,8 +188,8 @@ fn break_from(
     }
 }
 
-/// Tells a server what a log of an epoch told it, and breaks off at a version; answers whether it can. Out of memory
-/// the server may be left failed.
+/// Hands a server a log's reply, and breaks off at a version; answers whether it can. Out of memory the server may be
+/// left failed.
 fn break_off(
     alloc: Global,
     server: &mut Storage<MapStore>,
@@ -220,7 +221,7 @@ fn broken(heard: Result<bool, StorageFault>) -> Result<bool, Memory>
     }
 }
 
-/// What others see of a server, by a copy of it.
+/// A server's state as others see it, by a copy.
 pub fn last_of_copy(alloc: Global, server: &Storage<MapStore>) -> Result<Last, Memory>
     requires { server.now.failed ≡ false }
     ensures { IfOk result (λ told. told ≡ last.last_of_storage (server_of server.now)) }

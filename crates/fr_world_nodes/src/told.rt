@@ -1,6 +1,6 @@
 //! What nodes tell.
 
-/// What a node told, twice: for the list of turns, and for the caller.
+/// A node's reply, twice: for the list of turns, and for the caller.
 #[derive(Drop)]
 pub struct Told<T> {
     pub kept: T,

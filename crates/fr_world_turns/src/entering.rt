@@ -34,7 +34,7 @@ pub(crate) fn enter_rest(
     Ok(())
 }
 
-/// Enters what was asked and told in the turn at a place.
+/// Enters the asks and the reply of the turn at a place.
 fn enter_at(alloc: Global, turns: &[Turn], places: &mut Places, place: usize) -> Result<(), Memory>
     ensures grows { Grows places.old places.new }
     ensures found { OnOk result (IfSome (slice_get turns.now place) (λ t. IsFound turns.now places.new (turn_of t))) }
@@ -45,7 +45,7 @@ fn enter_at(alloc: Global, turns: &[Turn], places: &mut Places, place: usize) ->
     }
 }
 
-/// Enters what was asked and told in a turn.
+/// Enters the asks and the reply of a turn.
 fn enter(
     alloc: Global,
     turns: &[Turn],
@@ -149,6 +149,7 @@ fn enter_ask(
     ensures found { OnOk result (some_under turns.now places.new (tests.gives from.now sent.now.0 sent.now.1)
         (keys.ask_key from.now sent.now.0 sent.now.1) ≡ true) }
 {
+    // One entry is enough: whether an ask was sent does not depend on how often.
     if has_ask(turns, places, from, &sent.0, &sent.1) {
         return Ok(());
     }
@@ -156,7 +157,7 @@ fn enter_ask(
     add(alloc, places, &key, place)
 }
 
-/// Enters a turn under the key of what was told in it, if no turn is there in which it was told.
+/// Enters a turn under the key of its reply, unless a turn with that reply is there.
 fn enter_tell(
     alloc: Global,
     turns: &[Turn],
@@ -171,6 +172,7 @@ fn enter_tell(
     let Some(key) = told_key(turn) else {
         return Ok(());
     };
+    // One entry is enough here too. So a node that repeats itself costs no room.
     if has_retold(turns, places, &key, turn) {
         return Ok(());
     }

@@ -34,6 +34,7 @@ pub(crate) fn was_sent(
     ensures { result ≡ tests.was_sent (history_of turns.now) from.now to.now ask.now }
 {
     match from {
+        // Their asks follow from their state, and are judged by it (`storage_may_ask` of fr_world_nodes).
         NodeId::Storage { .. } => false,
         _ => some_gives(&turns[indexed..], from, to, ask) || has_ask(turns, places, from, to, ask),
     }
@@ -52,6 +53,7 @@ pub(crate) fn was_told(
     requires { AreFound turns.now indexed places.now }
     ensures { result ≡ tests.was_told (history_of turns.now) by.now to.now tell.now }
 {
+    // The turns that are not entered yet are the last ones, where most of what is looked for stands.
     some_tells(&turns[indexed..], by, to, tell) || has_tell(turns, places, by, to, tell)
 }
 
@@ -103,7 +105,7 @@ fn has_tell(turns: &[Turn], places: &Places, by: &NodeId, to: &NodeId, tell: &Te
     false
 }
 
-/// Whether what was told in a turn was told in one under a key.
+/// Whether a turn under a key has the same reply.
 pub(crate) fn has_retold(turns: &[Turn], places: &Places, key: &Key, turn: &Turn) -> bool
     ensures { result ≡ some_under turns.now places.now (retells (turn_of turn.now)) key.now }
 {

@@ -39,7 +39,7 @@ pub(crate) fn tell_key(by: &NodeId, to: &NodeId, tell: &Tell) -> Key
     key_of(by, to, tell_row(tell))
 }
 
-/// The key of what was told in a turn.
+/// The key of a turn's reply.
 pub(crate) fn told_key(turn: &Turn) -> Option<Key>
     ensures { result ≡ keys.told_key (turn_of turn.now) }
 {

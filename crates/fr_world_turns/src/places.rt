@@ -8,7 +8,7 @@ use std::alloc::Global;
 use std::collections::BTreeMap;
 use std::slice::from_ref;
 
-/// What one node asked or told another, and the two nodes, each as one number.
+/// A request or a reply, and its two nodes, each as one number.
 pub(crate) type Key = (u64, u64, u64);
 
 /// The places of each key.
@@ -21,7 +21,6 @@ pub(crate) enum Found {
     Several(Box<Vec<usize>>),
 }
 
-/// The places under a key.
 pub(crate) fn under<'a>(places: &'a Places, key: &Key) -> &'a [usize]
     ensures { result.now ≡ under places.now key.now }
 {

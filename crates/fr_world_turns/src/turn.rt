@@ -13,7 +13,7 @@ use fr_proxy::Outcome;
 use fr_register::{CellAsk, CellTell};
 use fr_storage::StorageFault;
 
-/// One turn of one node, with what it gave.
+/// One turn of one node, with its result.
 #[derive(Debug, Drop)]
 pub enum Turn {
     /// A recoverer began, to open a generation of this shape, or if none is given one of the shape that the one

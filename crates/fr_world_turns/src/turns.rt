@@ -25,7 +25,7 @@ use std::marker::Model;
 #[derive(Drop)]
 pub struct Turns {
     turns: Vec<Turn>,
-    /// How many of them have what they asked and told in the places.
+    /// How many of them have their asks and replies in the places.
     indexed: usize,
     /// How many of them have the node that went in the places, if one did.
     departed: usize,
@@ -158,7 +158,6 @@ impl Turns {
     }
 }
 
-/// The last of some turns.
 fn last_of(turns: &[Turn]) -> &[Turn] {
     &turns[turns.len().saturating_sub(LATELY)..]
 }

@@ -44,7 +44,6 @@ fn sequencer(alloc: Global, epoch: Epoch) -> Housed<InMemory<Sequencer>>
     Housed::new(alloc, node, NodeId::Sequencer { epoch })
 }
 
-/// A log of an epoch.
 fn log(alloc: Global, epoch: Epoch, index: u8) -> Station<InMemory<Log>>
     requires number { index < 2 }
     ensures place { result.place ≡ node.Log epoch index }
@@ -53,7 +52,6 @@ fn log(alloc: Global, epoch: Epoch, index: u8) -> Station<InMemory<Log>>
     Station::new(Housed::new(alloc, log, NodeId::Log { epoch, index }))
 }
 
-/// The logs of an epoch.
 fn logs(alloc: Global, epoch: Epoch) -> anyhow::Result<Vec<Station<InMemory<Log>>>>
     ensures named { IfOk result (λ logs. map (λ log. log.place) logs.items
         ≡ logs_named epoch (length logs.items)) }
@@ -74,7 +72,6 @@ fn directory(alloc: Global) -> anyhow::Result<Plain> {
     Ok(Directory::new(alloc, Vec::new(alloc), logs, sequencer, start, &later)?)
 }
 
-/// Prints what directories answer.
 pub(crate) fn show<R: Wait + Print>(rt: &R, alloc: Global) -> anyhow::Result<()> {
     show_epochs(rt, alloc, &directory(alloc)?)?;
     show_logs(rt, alloc, directory(alloc)?)?;

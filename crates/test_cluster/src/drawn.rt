@@ -20,7 +20,6 @@ static NUMBERS: [u64; 9] = [0, 1, 2, 3, 42, 2021, 1 << 32, 1 << 63, u64::MAX];
 
 static FILES: [u64; 6] = [0, 1, 64, 65, 4112, 8208];
 
-/// Prints what is drawn.
 pub(crate) fn show<R: Print>(rt: &R, alloc: Global) -> anyhow::Result<()> {
     show_words(rt)?;
     show_storms(rt)?;
@@ -236,7 +235,7 @@ fn show_told<R: Print>(rt: &R, alloc: Global) -> anyhow::Result<()> {
     Ok(())
 }
 
-/// How many of 200 asks pass, and how many of them, or of what is told of them, come 1 to 64 turns late: at strength 0
+/// How many of 200 asks pass, and how many of them, or of their replies, come 1 to 64 turns late: at strength 0
 /// and at 256, and at lateness 0 and at 256.
 fn show_extremes<R: Print>(rt: &R) -> anyhow::Result<()> {
     println!(rt; "of 200 asks pass, and are late, at strength 0 and 256 and lateness 0 and 256:")?;

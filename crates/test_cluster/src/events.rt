@@ -55,7 +55,6 @@ pub(crate) struct Events<'a, R> {
 }
 
 impl<'a, R: Wait> Events<'a, R> {
-    /// These events, none of which happened.
     pub(crate) fn new(
         rt: &'a R,
         alloc: Global,

@@ -50,7 +50,7 @@ pub(crate) enum Befalls {
     DropAsk,
     DropTell,
     Twice,
-    /// So many turns later what is told of it is heard.
+    /// So many turns later its reply is heard.
     LateTell(u8),
 }
 

@@ -124,7 +124,6 @@ static ROWS: [Row; 6] = [
     (End, SOUND, UNFLUSHED, Some(Output), 24, (30, 0, 1)),
 ];
 
-/// Runs a command, and counts its calls.
 fn run<R: Read, W: Write>(
     alloc: Global,
     command: Command,

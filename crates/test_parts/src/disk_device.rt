@@ -31,7 +31,6 @@ fn has<D: Device>(alloc: Global, file: &mut Records<D>, count: usize) -> bool {
     file.len() == count
 }
 
-/// The disk below, after a crash.
 fn crashed<K: Crash + Drop>(file: Records<DiskDevice<K>>) -> K {
     let mut below = file.into_device().into_below();
     below.crash();

@@ -57,7 +57,6 @@ fn says<D: FaithfulDisk + Drop>(
     matches!(found(alloc, files, script), Ok(lines) if lines.as_slice() == wanted.as_bytes())
 }
 
-/// Two files that hold nothing.
 fn no_files(alloc: Global) -> Files<MemoryDisk> {
     Files {
         log: MemoryDisk::new(alloc),
@@ -131,7 +130,6 @@ fn after(calls: usize) -> &'static str {
     }
 }
 
-/// The files after a crash of the machine.
 fn crashed<D: Crash>(mut files: Files<D>) -> Files<D> {
     files.log.crash();
     files.db.crash();

@@ -7,7 +7,6 @@ use std::alloc::Global;
 use std::process::Abort;
 use std::test::Fail;
 
-/// A mirror of a disk.
 fn over<D: Disk + Drop>(alloc: Global, below: D) -> Option<Mirror<D>> {
     if !below.may_be_used() {
         return None;
@@ -50,7 +49,6 @@ fn after(calls: usize) -> &'static [u8] {
     }
 }
 
-/// Whether a call is done.
 fn does<D: Disk>(disk: &mut D, call: Call) -> bool {
     if !disk.may_be_used() {
         return false;

@@ -10,7 +10,6 @@ use serde_json::Value;
 use std::alloc::Global;
 use test_asks::{RowAsk, Wrong};
 
-/// A batch.
 pub(crate) fn read_batch(row: &mut RowAsk) -> Result<Batch, Wrong> {
     row.read("batch")
 }
@@ -38,12 +37,10 @@ fn decode_batch(row: &mut RowAsk) -> RowTold {
     }
 }
 
-/// Bytes in hex.
 fn write_bytes(alloc: Global, bytes: Result<Vec<u8>, Memory>) -> RowTold {
     write(alloc, &Bytes::from_vec(bytes?))
 }
 
-/// A coordinated state.
 pub(crate) fn read_state(row: &mut RowAsk) -> Result<CoordState, Wrong> {
     row.read("state")
 }

@@ -12,7 +12,6 @@ use test_asks::{NO_FORM, RowAsk, Wrong};
 /// Keys and their values.
 pub(crate) type Rows = BTreeMap<Bytes, Bytes>;
 
-/// Of no key.
 pub(crate) fn no_rows(alloc: Global) -> Rows {
     BTreeMap::new(alloc)
 }
@@ -28,7 +27,6 @@ impl Subject for Rows {
     }
 }
 
-/// The copy of a batch acts.
 fn act(rows: &mut Rows, row: &mut RowAsk) -> Result<(), Wrong> {
     let batch: Batch = row.read("batch")?;
     Ok(apply(row.alloc, rows, &batch.copy()?)?)

@@ -85,7 +85,6 @@ fn is_same<C: Copied + PartialEq>(copy: Result<C, Memory>, other: &C) -> Result<
     Ok(copy == *other && !(copy != *other))
 }
 
-/// Whether there is such a one.
 fn write_made<C: Copied>(read: Result<C, Wrong>) -> RowTold {
     match read {
         Ok(_) => Ok(Value::from(true)),
@@ -98,7 +97,6 @@ fn write_parts<C: Copied>(alloc: Global, read: Result<C, Wrong>) -> RowTold {
     read?.parts(alloc)
 }
 
-/// The forms of copies.
 fn write_copies<C: Copied>(alloc: Global, all: &[C]) -> RowTold {
     let mut forms = Vec::new(alloc);
     for one in all {

@@ -19,7 +19,6 @@ pub(crate) fn read_config(row: &mut RowAsk) -> Result<Config, Wrong> {
     }
 }
 
-/// The event of a row.
 pub(crate) fn read_event(world: &World, row: &mut RowAsk) -> Result<Event, Wrong> {
     match row.word {
         "begin" => read_begin(row),

@@ -109,7 +109,7 @@ fn have_numbered(alloc: Global, world: &mut World, epoch: Epoch) -> anyhow::Resu
     Ok(number_in(&answer))
 }
 
-/// What comes of an event.
+/// The outcome of an event.
 fn happen(alloc: Global, world: &mut World, event: Event) -> anyhow::Result<Answer> {
     Ok(world.step(alloc, event)?)
 }

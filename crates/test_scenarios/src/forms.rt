@@ -68,7 +68,6 @@ pub(crate) fn write_generation(alloc: Global, generation: Option<Generation>) ->
     }
 }
 
-/// An object of these numbers.
 pub(crate) fn members(alloc: Global, numbers: &[(&str, u64)]) -> Result<Object, Memory> {
     let mut object = Object::new(alloc);
     for (name, number) in numbers {

@@ -43,7 +43,6 @@ fn has_told(turn: &Turn, by: &NodeId, to: &NodeId) -> bool {
     }
 }
 
-/// What was told in a turn.
 fn told_in(turn: &Turn) -> Result<Tell, Wrong> {
     match turn {
         Turn::Cell { tell, .. } => Ok(Tell::Cell(tell.copy()?)),

@@ -161,7 +161,6 @@ where
     }
 }
 
-/// The kind of what a node is asked.
 fn kind_of(node: NodeId) -> &'static str {
     match node {
         NodeId::Cell { .. } => "cell_ask",

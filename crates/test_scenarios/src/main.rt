@@ -1,4 +1,4 @@
-//! Plays the rows of scenarios that a line of the input each has: each is answered by a line with what it tells. The first
+//! Plays the rows of scenarios that a line of the input each has: each is answered by a line with its outcome. The first
 //! row of a scenario makes what it is about, and an empty line ends it. What cannot be read is answered by `!` and why.
 //! tests/scenarios writes the rows, and compares. The status is 1 if the example does not come out.
 #![tactic(auto)]
@@ -44,7 +44,6 @@ fn main(rt: HostRuntime) -> anyhow::Result<ExitCode> {
     })
 }
 
-/// Plays scenario after scenario.
 fn play_all(lines: &Lines) -> anyhow::Result<()> {
     for _scenario in 0..u64::MAX {
         let Some(line) = lines.next()? else {

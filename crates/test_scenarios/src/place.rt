@@ -28,7 +28,7 @@ pub(crate) trait Kept: Sized + Drop {
     /// Gives the device back.
     fn into_disk(file: Self::File) -> Disk;
 
-    /// What comes of a row while it is open.
+    /// The outcome of a row while it is open.
     fn play(&self, file: &mut Self::File, row: &mut RowAsk) -> RowTold;
 }
 
@@ -47,7 +47,6 @@ pub(crate) struct Place<K: Kept> {
 const NO_DEVICE: Wrong = Wrong::Form("no device is there: a file is open, or could not be");
 
 impl<K: Kept> Place<K> {
-    /// The device, which no open file uses.
     fn device(&mut self) -> Result<&mut MemoryDevice, Wrong> {
         match &mut self.device {
             Some(device) => Ok(device),
@@ -96,7 +95,7 @@ impl<K: Kept> Place<K> {
         Ok(Value::Null)
     }
 
-    /// What comes of a row while no file is open.
+    /// The outcome of a row while no file is open.
     fn play_closed(&mut self, row: &mut RowAsk) -> RowTold {
         let alloc = row.alloc;
         match row.word {

@@ -38,7 +38,7 @@ impl Subject for Command {
     }
 }
 
-/// What comes of a script that is given in hex: the fault as it is printed, or null, and the lines as a text.
+/// The outcome of a script that is given in hex: the fault as it is printed, or null, and the lines as a text.
 fn run_bytes(command: Command, row: &mut RowAsk) -> RowTold {
     let alloc = row.alloc;
     let script: Bytes = row.read("bytes")?;

@@ -11,7 +11,6 @@ use serde_json::Value;
 use std::alloc::Global;
 use test_asks::{RowAsk, Wrong};
 
-/// How the keys are cut into shards.
 pub(crate) fn read_map(row: &mut RowAsk) -> Result<ShardMap, Wrong> {
     map_of(row.get("shards")?)
 }
@@ -79,7 +78,6 @@ fn write_found(alloc: Global, shard: Result<Option<Shard>, Memory>) -> RowTold {
     }
 }
 
-/// The logs that hold a tag.
 fn held_by(row: &mut RowAsk) -> RowTold {
     let (m, k) = read_sizes(row)?;
     told(row.alloc, holders(row.alloc, row.get("tag")?, m, k))

@@ -65,7 +65,6 @@ pub(crate) fn read_failing(row: &mut RowAsk) -> Result<FailsOnce, Wrong> {
     Ok(FailsOnce::new(row.alloc, u32::from(calls), row.get("done")?))
 }
 
-/// What comes of a row of any store.
 fn play_word<S: ShardStore>(store: &mut S, row: &mut RowAsk) -> RowTold {
     let alloc = row.alloc;
     match row.word {

@@ -13,7 +13,7 @@ use serde_json::Value;
 use std::alloc::Global;
 use test_asks::{NO_FORM, RowAsk, Wrong};
 
-/// What comes of a row of a tally of cells, of which `write` writes how far it has come.
+/// The outcome of a row of a tally of cells, of which `write` writes how far it has come.
 macro_rules! play_poll {
     ($tally:ident, $row:ident, $write:ident) => {
         match $row.word {

@@ -6,7 +6,7 @@ use std::alloc::Global;
 use std::fmt;
 use test_asks::Wrong;
 
-/// What comes of a row, in its form.
+/// The outcome of a row, in its form.
 pub(crate) type RowTold = Result<Value, Wrong>;
 
 /// What is written of something that was done. If there is no memory for it it is written once more, since the row is
@@ -20,12 +20,11 @@ macro_rules! twice {
     };
 }
 
-/// A value in its form.
 pub(crate) fn write<T: Formed>(alloc: Global, value: &T) -> RowTold {
     twice!(value.to_value(alloc))
 }
 
-/// What comes of a call: a value in its form, or the name of why not.
+/// The outcome of a call: a value in its form, or the name of why not.
 pub(crate) fn told<T: Formed, E: fmt::Debug + Drop>(alloc: Global, told: Result<T, E>) -> RowTold {
     match told {
         Ok(value) => write(alloc, &value),

@@ -46,7 +46,7 @@ impl Subject for Played {
     }
 }
 
-/// What comes of an event. If memory runs out the world is as it was, and the event is tried again.
+/// The outcome of an event. If memory runs out the world is as it was, and the event is tried again.
 fn take(alloc: Global, played: &mut Played, event: Event) -> RowTold {
     let turns = played.world.turns().len();
     let given = match played.world.step(alloc, event.copy()?) {
@@ -58,7 +58,7 @@ fn take(alloc: Global, played: &mut Played, event: Event) -> RowTold {
     said(write_happened(alloc, &mut played.events, event, given))
 }
 
-/// Keeps an event, and says a copy of what came of it.
+/// Keeps an event, and says a copy of its outcome.
 fn write_happened(
     alloc: Global,
     events: &mut Vec<Event>,
@@ -82,7 +82,7 @@ fn write_answer(alloc: Global, answer: Result<Answer, Memory>) -> RowTold {
     }
 }
 
-/// Why a storage server did not take what it heard.
+/// Why a storage server refused a reply.
 fn write_refused(alloc: Global, fault: StorageFault) -> RowTold {
     let name = named(alloc, &fault)?;
     Ok(Object::new(alloc).put("refused", Ok(name))?.into_value())
@@ -96,7 +96,7 @@ fn state(world: &World, row: &mut RowAsk) -> RowTold {
     }
 }
 
-/// What the storage server of a tag answers a read of a key at a version.
+/// The answer of a tag's storage server to a read of a key at a version.
 fn read(world: &mut World, row: &mut RowAsk) -> RowTold {
     let (tag, version) = (row.get("tag")?, row.get("version")?);
     let key: Bytes = row.get("key")?;

@@ -58,6 +58,8 @@ where
         match served(alloc, &mut self.node, &mut self.journal, &ask) {
             Ok(tell) => {
                 let tell = N::Plain::wrap_tell(tell);
+                // Copied before the entry takes it, and looked at only afterwards: the node has taken the ask, so it is
+                // entered whether or not there is memory for the answer (invariant 2).
                 let handed = tell.copy();
                 let ask = N::Plain::wrap(ask);
                 self.journal.push_reserved(Entry {
@@ -70,6 +72,8 @@ where
                 }
             }
             Err(fault) => {
+                // Every other fault leaves the node as it was. After this one only opening it again tells whether it
+                // took the ask, so the ask is kept (invariant 3).
                 if fault == NodeFault::Device {
                     self.is_failed = true;
                     self.kept = Some(AskInDoubt {
@@ -84,7 +88,6 @@ where
         }
     }
 
-    /// Enters that the node crashed, or is lost.
     pub(super) fn enter_end(&mut self, stamp: Stamp, is_lost: bool) -> Result<(), NodeFault>
         requires works { Works self.old }
         requires there { is_gone self.old ≡ false }
@@ -95,6 +98,7 @@ where
         ensures works { OnOk result (Works self.new) }
         ensures err { IfErr result (λ fault. (fault ≡ NodeFault.Memory) × (self.new.entries ≡ self.old.entries)) }
     {
+        // Before the node is gone, so that an end that cannot be entered does not come (invariant 2).
         if self.journal.reserve().is_err() {
             return Err(NodeFault::Memory);
         }

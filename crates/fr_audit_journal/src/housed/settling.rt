@@ -17,7 +17,7 @@ where
     N::Plain: Housable,
     <N::Plain as Machine>::Ask: Drop,
 {
-    /// Opens the node again.
+    /// Opens the node again, which tells whether it took the ask in doubt.
     pub(super) fn reopen(&mut self, alloc: Global) -> Result<(), NodeFault>
         ensures place { self.new.place ≡ self.old.place }
         ensures first { self.new.first ≡ self.old.first }
@@ -33,15 +33,20 @@ where
         match self.node.reopen(alloc) {
             Ok(Reopened::Before) => {
                 self.is_failed = false;
+                // The device does not have the ask, so nothing is entered of it, unless an earlier opening found it
+                // (invariant 6).
                 self.kept = left(self.kept.take());
                 Ok(())
             }
             Ok(Reopened::After) => {
                 self.is_failed = false;
+                // The machine is behind the ask, and the journal is not yet: until it is entered nothing else may be
+                // served (invariant 2).
                 self.kept = found(self.kept.take());
                 Ok(())
             }
             Err(fault) => {
+                // A node that works and is opened again because it crashes still works if there was no memory for it.
                 self.is_failed = self.is_failed || fault == NodeFault::Device;
                 Err(fault)
             }
@@ -68,15 +73,19 @@ where
         ensures full { (result ≡ Err NodeFault.Full) → IfSome self.old.kept (λ kept. N.LacksRoom self.old.node kept.ask) }
         ensures trouble { IfErr result (λ fault. (fault ≡ NodeFault.Memory) ⊎ N.CanMeet fault) }
     {
+        // What is still kept was found taken, since `reopen` lets go of an ask that was not (invariant 3).
         let Some(kept) = self.kept.take() else {
             return Ok(());
         };
         repeat_law::<N::Plain>();
+        // Only to hear its tell, which the fault kept from us: served once more, an ask changes nothing and is told the
+        // same (invariant 5).
         match served(alloc, &mut self.node, &mut self.journal, &kept.ask) {
             Ok(tell) => {
                 let tell = N::Plain::wrap_tell(tell);
                 let ask = N::Plain::wrap(kept.ask);
                 self.journal.push_reserved(Entry {
+                    // Above all entries still, because none was made since (invariant 4).
                     stamp: kept.stamp,
                     act: Act::Asked {
                         from: kept.from,
@@ -88,14 +97,15 @@ where
             }
             Err(fault) => {
                 self.is_failed = fault == NodeFault::Device;
+                // Still to be entered: without it the journal would not lead to the node (invariants 2 and 6).
                 self.kept = Some(kept);
                 Err(fault)
             }
         }
     }
 
-    /// Opens a failed node again, and one that crashes whether it failed or not; then enters the ask that met a fault if
-    /// it was taken.
+    /// Opens a failed node again, and one that crashes whether it failed or not; then enters the ask that met a fault
+    /// if it was taken.
     pub(super) fn settle(&mut self, alloc: Global, crashes: bool) -> Result<(), NodeFault>
         requires there { is_gone self.old ≡ false }
         ensures place { self.new.place ≡ self.old.place }
@@ -113,6 +123,8 @@ where
         ensures err_kept { OnErr result ((self.new.kept ≡ self.old.kept) ⊎ (self.new.kept ≡ found_kept self.old.kept)) }
         ensures trouble { IfErr result (λ fault. (fault ≡ NodeFault.Memory) ⊎ N.CanMeet fault) }
     {
+        // A node that works is not opened for an ask, since that would read its whole file. For a crash it is, because
+        // only its device outlasts one.
         if crashes || self.is_failed {
             match self.reopen(alloc) {
                 Ok(()) => {}

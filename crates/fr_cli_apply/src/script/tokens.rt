@@ -40,7 +40,6 @@ fn read_whole(alloc: Global, reader: &mut Reader<'_>) -> Result<Vec<Planned>, Un
     Ok(operations)
 }
 
-/// Reads a list of operations.
 fn read_operations(alloc: Global, reader: &mut Reader<'_>) -> Result<Vec<Planned>, Unread>
     ensures value { IfOk result (λ operations. Gives each_planned_of 126 reader.old operations.items reader.new) }
     ensures shorter { OnOk result (length reader.new < length reader.old) }

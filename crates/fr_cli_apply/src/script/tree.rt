@@ -77,7 +77,6 @@ fn read_named(alloc: Global, name: &str, fields: Value) -> Result<Operation, Cli
     }
 }
 
-/// Reads the fields of an `apply`.
 fn read_apply(alloc: Global, mut fields: Value) -> Result<Operation, CliFault>
     ensures ok { IfOk result (λ operation. apply_of (view fields) ≡ Some operation) }
     ensures bad { result ≡ Err CliFault.BadScript → apply_of (view fields) ≡ None }

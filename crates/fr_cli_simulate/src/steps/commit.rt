@@ -10,7 +10,7 @@ use fr_script::simulate::Commit;
 use fr_world::World;
 use std::alloc::Global;
 
-/// What becomes of a batch in its step.
+/// A batch's fate in its step.
 #[derive(Clone, Copy)]
 enum Became {
     /// It is beyond a limit.

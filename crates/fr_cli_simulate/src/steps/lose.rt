@@ -6,7 +6,6 @@ use fr_run::{Event, NotEnabled};
 use fr_world::World;
 use std::alloc::Global;
 
-/// Loses a log.
 pub(crate) fn line_of(alloc: Global, world: &mut World, log: LogId) -> Result<String, Memory> {
     let why = lose(alloc, world, &log)?;
     line_after(alloc, &log, why)

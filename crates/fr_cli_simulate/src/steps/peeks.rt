@@ -19,7 +19,6 @@ struct Peek {
 }
 
 impl Peek {
-    /// It as an ask.
     fn ask(&self) -> Ask {
         Ask::Log(LogAsk::Peek {
             epoch: self.epoch,
@@ -64,7 +63,6 @@ fn peek_tags(
     Ok(is_new)
 }
 
-/// Makes those of a tag.
 fn peek_tag(
     alloc: Global,
     world: &mut World,

@@ -9,7 +9,7 @@ use fr_script::simulate::Resend;
 use fr_world::World;
 use std::alloc::Global;
 
-/// What the tells of a step say of a batch.
+/// The fate of a batch by the replies of a step.
 #[derive(Clone, Copy)]
 pub(crate) enum Said {
     Waiting,
@@ -18,7 +18,6 @@ pub(crate) enum Said {
 }
 
 impl Said {
-    /// Its word in a line.
     pub(crate) fn word(self) -> &'static str {
         match self {
             Said::Waiting => "waiting",
@@ -128,7 +127,7 @@ fn push_one(
     }
 }
 
-/// What the proxy said at a push, if that came to its log.
+/// The proxy's word at a push, if that came to its log.
 fn said_in(done: Result<Option<Exchange>, Memory>) -> Result<Said, Memory> {
     match done {
         Ok(Some(done)) => Ok(said_by(&done.outcome)),
@@ -137,7 +136,7 @@ fn said_in(done: Result<Option<Exchange>, Memory>) -> Result<Said, Memory> {
     }
 }
 
-/// What an outcome says of a batch.
+/// The fate of a batch by an outcome.
 fn said_by(outcome: &Outcome) -> Said {
     match outcome {
         Outcome::Committed { .. } => Said::Committed,

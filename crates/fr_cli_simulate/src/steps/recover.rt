@@ -39,7 +39,7 @@ fn why_not_begun(
     why_not(alloc, world, Event::Begin { ballot, shape })
 }
 
-/// Asks for a recoverer what its phases lack.
+/// Sends the asks that a recoverer's phases still lack.
 fn go_on(alloc: Global, world: &mut World, recover: &Recover) -> Result<(), Memory> {
     let ballot = recover.ballot;
     ask_each(alloc, world, ballot, Purpose::Read, recover.read.as_slice())?;
@@ -56,7 +56,6 @@ fn go_on(alloc: Global, world: &mut World, recover: &Recover) -> Result<(), Memo
     ask_each(alloc, world, ballot, Purpose::Push, recover.mark.as_slice())
 }
 
-/// The line of a ballot that is used.
 fn refused(alloc: Global, ballot: Ballot, name: &str) -> Result<String, Memory> {
     let ballot = ballot.get();
     Ok(format!(in alloc; "recover {ballot} refused {name}\n")?)
@@ -118,7 +117,7 @@ fn ask_one(
     }
 }
 
-/// What came of an ask, of which nothing is to be said.
+/// The outcome of an ask, of which nothing is to be said.
 fn came(done: Result<Option<Exchange>, Memory>) -> Result<(), Memory> {
     match done {
         Ok(_) => Ok(()),

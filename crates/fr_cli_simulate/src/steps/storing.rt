@@ -1,4 +1,4 @@
-//! The steps `pull`, `mark` and `pop`: a storage server asks a log for something, and hears in place what it is told.
+//! The steps `pull`, `mark` and `pop`: a storage server asks a log for something, and hears the reply in place.
 //! If memory runs out the world is given up, so no hear needs a copy of the server.
 ghost use Rattle.std.specs.Prelude.{◌≡◌, None, IfOk, IsOk};
 ghost use Rattle.fr_base.specs.declared.place.NodeId.TheVariants as node;
@@ -20,7 +20,7 @@ use std::alloc::Global;
 /// How many records are pulled at most.
 const MOST: u8 = 100;
 
-/// What a storage server asks a log for.
+/// A storage server's wish from a log.
 #[derive(Clone, Copy)]
 pub(crate) enum Wish {
     /// The records of its tag after the version that it applied.
@@ -32,7 +32,6 @@ pub(crate) enum Wish {
 }
 
 impl Wish {
-    /// The word of its step.
     fn word(self) -> &'static str {
         match self {
             Wish::Pull => "pull",
@@ -42,7 +41,7 @@ impl Wish {
     }
 }
 
-/// What a log told, as far as the line of a step says it.
+/// A log's reply, as far as the line of a step says it.
 #[derive(Clone, Copy)]
 enum Told {
     /// It refused the ask.
@@ -53,15 +52,15 @@ enum Told {
     Other,
 }
 
-/// What came of what a storage server asked: what the log told, or why that or its hear was refused.
+/// The outcome of a storage server's ask: the log's reply, or why the ask or the hear was refused.
 #[derive(Clone, Copy)]
 enum Asked {
     Told(Told),
     Refused(Refusal),
 }
 
-/// Has the storage server of a step ask its log, and hear what that tells; gives the line of the step beside the world
-/// after it.
+/// Has the storage server of a step ask its log, and hear the reply; gives the line of the step beside the world after
+/// it.
 pub(crate) fn line_of(
     alloc: Global,
     world: World,
@@ -117,7 +116,6 @@ fn pop_line(alloc: Global, pop: &Pull, told: &Told) -> Result<String, Memory> {
     }
 }
 
-/// The line of a refused step.
 fn refused_line(
     alloc: Global,
     wish: Wish,
@@ -138,7 +136,6 @@ fn popped_line(alloc: Global, pop: &Pull, through: Version) -> Result<String, Me
     Ok(format!(in alloc; "pop {tag} {epoch} {through}\n")?)
 }
 
-/// The line of the storage server's state.
 fn stands_line(alloc: Global, world: &World, wish: Wish, pull: &Pull) -> Result<String, Memory> {
     match world.storage(pull.storage) {
         Some(storage) => {
@@ -153,8 +150,8 @@ fn stands_line(alloc: Global, world: &World, wish: Wish, pull: &Pull) -> Result<
     }
 }
 
-/// Has a storage server ask a log, and hear what it tells: what came of it, beside the world after it. The server that is
-/// not there asks nothing.
+/// Has a storage server ask a log, and hear the reply: the outcome, beside the world after it. A missing server sends
+/// nothing.
 fn ask_for(alloc: Global, world: World, wish: Wish, pull: &Pull) -> Result<(World, Asked), Memory> {
     let Some(ask) = ask_of(&world, wish, pull) else {
         return Ok((
@@ -169,7 +166,7 @@ fn ask_for(alloc: Global, world: World, wish: Wish, pull: &Pull) -> Result<(Worl
     ask_in_place(alloc, world, pull.storage, &to, ask)
 }
 
-/// What a storage server that is there asks.
+/// The ask of the step's storage server; none if there is no server of that tag.
 fn ask_of(world: &World, wish: Wish, pull: &Pull) -> Option<LogAsk> {
     let storage = world.storage(pull.storage)?;
     let epoch = pull.log.epoch;
@@ -190,7 +187,7 @@ fn ask_of(world: &World, wish: Wish, pull: &Pull) -> Option<LogAsk> {
     }
 }
 
-/// Has a storage server ask a log, and hear what it tells.
+/// Has a storage server ask a log, and hear the reply.
 fn ask_in_place(
     alloc: Global,
     world: World,
@@ -206,7 +203,7 @@ fn ask_in_place(
     }
 }
 
-/// What a log tells a storage server that asks it, if the server can hear that.
+/// A log's reply to a storage server, if the server can hear it.
 fn tell_for(
     alloc: Global,
     world: &mut World,
@@ -224,7 +221,7 @@ fn tell_for(
     }
 }
 
-/// Why a storage server does not hear what another node told it; none if it does.
+/// Why a storage server does not hear another node's reply; none if it does.
 fn why_unheard(world: &World, tag: Tag, from: &NodeId, tell: &Tell) -> Option<NotEnabled>
     ensures { result ≡ None → IsOk (turn_of world.now.config world.now.turns (event.Hear (node.Storage tag) from.now tell.now None)) }
 {
@@ -262,7 +259,7 @@ fn hear_in_place(
     }
 }
 
-/// `Memory`, if that alone can be why.
+/// `Memory`: the checks before leave no other reason.
 fn memory_in(why: NotEnabled) -> Memory
     requires { why ≡ not_enabled.Memory }
 {
@@ -277,7 +274,6 @@ fn memory_in(why: NotEnabled) -> Memory
     }
 }
 
-/// What a log told.
 fn told_in(tell: &Tell) -> Told {
     match tell {
         Tell::Log(LogTell::Refused { why }) => Told::Refused(*why),
@@ -286,7 +282,7 @@ fn told_in(tell: &Tell) -> Told {
     }
 }
 
-/// What was told, unless the log refused the ask, or the storage server the tell.
+/// The reply, unless the log refused the ask, or the storage server the reply.
 fn asked_in(told: Told, answer: &Answer) -> Asked {
     match (told, answer) {
         (Told::Refused(why), _) => Asked::Refused(Refusal::Log(why)),

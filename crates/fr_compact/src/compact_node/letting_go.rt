@@ -39,6 +39,7 @@ pub(super) fn let_go<M: Compact, F: GroupFile>(
     if file.is_failed() {
         return Err(NodeFault::Failed);
     }
+    // All records are there before the file is touched, so `Memory` leaves the old ones (invariant 6).
     let Ok(group) = machine.spell(alloc) else {
         return Err(NodeFault::Memory);
     };
@@ -49,7 +50,9 @@ pub(super) fn let_go<M: Compact, F: GroupFile>(
 }
 
 /// Lets go for a group that lacked room, and is to leave so many bytes free. If it is to leave some, `Full` if what
-/// spells the state takes more than half of the next room.
+/// spells the state takes more than half of the next room. So at least as many bytes are free then as were written for
+/// it, and letting go costs at most one byte for each that is added. The price is that what stays never uses half of
+/// the room.
 pub(super) fn make_room<M: Compact, F: GroupFile>(
     file: &mut F,
     machine: &M,
@@ -79,6 +82,8 @@ pub(super) fn make_room<M: Compact, F: GroupFile>(
         return Err(NodeFault::Memory);
     };
     let sizes = file.sizes();
+    // Beside header and records: 14 bytes of gate, length and checksums, and 10 for the gate and guard behind. A sum
+    // that would not fit in 64 bits counts as the greatest number, so it never passes for a small one.
     let taken = group_len(state.as_slice())
         .saturating_add(sizes.front)
         .saturating_add(24);

@@ -30,6 +30,7 @@ pub(super) fn read_all<M: Recorded, F: GroupFile>(
         × (F.next_room file.new ≡ F.next_room file.old) × (F.front file.new ≡ F.front file.old) }
     ensures any_moment { F.Throughout (λ rs. rs ≡ F.records file.old) file.old file.new }
 {
+    // In order, because what a record stands for depends on the state that those before it led to (invariant 1).
     for i in 0..file.len() {
         let change = match file.get(alloc, i) {
             Ok(Some(change)) => change,
@@ -38,6 +39,7 @@ pub(super) fn read_all<M: Recorded, F: GroupFile>(
         };
         match machine.read(alloc, change.as_slice()) {
             Ok(()) => {}
+            // Nothing behind it is read: no ask leads to the state in which it would have to be understood.
             Err(RecordReadFault::Broken) => return Err(NodeFault::Broken),
             Err(RecordReadFault::Memory) => return Err(NodeFault::Memory),
         }

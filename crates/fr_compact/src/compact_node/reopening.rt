@@ -72,13 +72,19 @@ where
     ensures any_moment { F.Throughout (λ rs. (rs ≡ F.records file.old) ⊎ (F.owed file.old ≡ Some rs)) file.old file.new }
     ensures kept { OnOk result (F.Throughout (λ rs. rs ≡ F.records file.new) file.new file.new) }
 {
+    // The file was letting go for these asks, so their records were never on the way, and no crash leaves them
+    // (invariant 3).
     if !held.is_in_flight {
         return reopen_idle(file, alloc);
     }
+    // Measured before the file is opened: a failed file still knows the records it had, and afterwards it has those
+    // that a crash left.
     let before = file.len();
     let Ok(place) = machine.place(alloc) else {
         return Err(NodeFault::Memory);
     };
+    // Before the file is opened: that cannot be undone if it is found with the asks' records and memory runs out for
+    // them (invariant 6).
     match take_all(machine, alloc, held.asks.as_slice()) {
         Ok(_) => {}
         Err(_) => {

@@ -58,9 +58,12 @@ where
         ⊎ (x ≡ after_all M.after machine.old asks.now))) file.old file.new }
 {
     let _works = file.is_failed();
+    // Before the first ask, so that each failure below has a state to go back to (invariant 6).
     let Ok(place) = machine.place(alloc) else {
         return Err(NodeFault::Memory);
     };
+    // The machine before the file: each ask's records are those in the state that the asks before it left
+    // (invariant 7).
     let Ok(taken) = take_all(machine, alloc, asks) else {
         machine.go_back(place);
         return Err(NodeFault::Memory);
@@ -116,10 +119,14 @@ where
     ensures any_moment { F.Throughout (LeadsTo M.replay (M.fresh machine.old) (λ x. (x ≡ machine.old)
         ⊎ (x ≡ after_all M.after machine.old asks.now))) file.old file.new }
 {
+    // Other records will stand in the file, and this law says that they lead to the same state (invariant 1).
     M::leads_back();
+    // `put_all` went back, so this is the machine before the asks (invariant 2).
     match make_room(file, machine, alloc, spare) {
         Ok(()) => {}
         Err(fault) => {
+            // The device failed under the records of the state, if it did. Those of the asks were not on their way
+            // (invariant 3).
             return Err(Unserved {
                 fault,
                 is_in_flight: false,
@@ -128,6 +135,7 @@ where
     }
     match put_all(file, machine, alloc, asks, spare) {
         Ok(tells) => Ok(tells),
+        // If this is `Device`, the group itself was on its way (invariant 3).
         Err(fault) => Err(Unserved {
             fault,
             is_in_flight: true,
@@ -141,6 +149,8 @@ pub(super) fn spare_of<M: Compact>(asks: &[M::Ask]) -> usize
 {
     let mut most = 0;
     for ask in asks {
+        // One group has one end, and the greatest number of free bytes behind it keeps the promise of every ask
+        // (invariant 4).
         most = most.max(M::spare(ask));
     }
     most
@@ -187,7 +197,9 @@ where
 {
     match put_all(file, machine, alloc, asks, spare) {
         Ok(tells) => Ok(tells),
+        // Only for want of room, since to let go costs the whole state each time.
         Err(NodeFault::Full) => put_behind_state(file, machine, alloc, asks, spare),
+        // As above: a crash may leave the asks, and the device is not asked which until `reopen` (invariant 3).
         Err(fault) => Err(Unserved {
             fault,
             is_in_flight: true,

@@ -1,4 +1,4 @@
-//! Asks one after another, what they are told, and their records.
+//! Asks one after another, their replies and their records.
 ghost use Rattle.std.specs.Prelude.{◌≡◌, ◌⊎◌, ◌++◌, ◌∷◌, [], List, All, OnOk, OnErr, IfOk};
 ghost use Rattle.fr_segment.specs.Group.{records_of};
 ghost use Rattle.fr_record_node.specs.Several.{after_all, told_all, written_all};
@@ -7,7 +7,7 @@ use fr_base::{Machine, Memory};
 use fr_record_node::Recorded;
 use std::alloc::Global;
 
-/// What asks were told, and their records.
+/// The replies to asks, and their records.
 #[derive(Drop)]
 pub(super) struct Taken<T> {
     pub tells: Vec<T>,
@@ -30,9 +30,12 @@ where
     ensures asked { OnOk result (M.IsAsk ask.now) }
     ensures err { OnErr result ((machine.new ≡ machine.old) ⊎ (machine.new ≡ M.kept machine.old ask.now)) }
 {
+    // Before the ask is taken: its records are those of the state that it meets (invariant 7).
     let mut group = machine.records(alloc, ask)?;
     taken.group.append(&mut group)?;
+    // A copy, because the caller's asks are taken a second time if the file fails (`reopen`) or has to let go.
     let copy = M::copy_ask(alloc, ask)?;
+    // Kept and not settled, so that the machine can go back if the file refuses the records (invariant 2).
     let tell = machine.keep(alloc, copy)?;
     taken.tells.push(tell)?;
     Ok(())

@@ -73,7 +73,7 @@ impl Standing {
         Ok(asks)
     }
 
-    /// What is shown popped, with what a reply shows, if that is the first of its log.
+    /// The pops that replies have shown, with those of this reply if it is the first of its log.
     fn shown_with(&self, index: u8, popped: &PoppedTags) -> Result<Vec<PoppedTag>, Memory>
         ensures { IfOk result (λ shown. shown.items ≡ shown_in (state_of self.now) index popped.now) }
     {
@@ -170,7 +170,7 @@ fn replied(end: &EndTally, index: u8, durable: Version, known: Version) -> EndTa
     end
 }
 
-/// What a recoverer asks once it has its plan: none if it is lost.
+/// A recoverer's asks once it has its plan: none if it is lost.
 fn draft_asks(
     alloc: Global,
     epoch: Epoch,

@@ -65,7 +65,7 @@ impl Standing {
         }
     }
 
-    /// It found its parent, or that what was read is no state.
+    /// It found its parent, or that the value read is no state.
     fn find(&mut self, found: Option<Found>)
         requires { IfSome found (λ f. IsGeneration f.last) }
         ensures { state_of self.new ≡ found_in (state_of self.old) (option_map parent_of found) }

@@ -103,7 +103,7 @@ impl Log {
         })
     }
 
-    /// Pops a tag: what that covers is still there.
+    /// Pops a tag. The batches that this covers stay until `settle`.
     fn pop(&mut self, epoch: Epoch, tag: Tag, through: Version) -> Result<LogTell, Memory>
         ensures told { IfOk result (λ tell. tell ≡ answer_of self.old (LogAsk.Pop epoch tag through)) }
         ensures after { IfOk result (λ _. self.new ≡ next_of self.old (LogAsk.Pop epoch tag through)) }

@@ -63,8 +63,7 @@ impl Headers {
         }
     }
 
-    /// Whether a push has its header among them, whatever it tells of what is known. Its run is sought by
-    /// halving.
+    /// Whether a push has its header among them, whatever its `known`. Its run is sought by halving.
     pub(crate) fn heads(&self, push: &Push) -> bool
         requires { RiseFrom 0 self.now }
         ensures { result ≡ list_any (is_headed push.now) self.now }
@@ -79,7 +78,6 @@ impl Headers {
         self.runs[after - 1].heads(push)
     }
 
-    /// The numbers of each.
     pub(crate) fn numbers(&self, alloc: Global) -> Result<Vec<PushNumbers>, Memory>
         ensures { IfOk result (λ list. list.items ≡ numbers_in self.now) }
     {
@@ -132,7 +130,6 @@ impl Clone for Headers {
     }
 }
 
-/// Appends the numbers of the headers of runs.
 fn put_runs(runs: &[Run], list: &mut Vec<PushNumbers>) -> Result<(), Memory>
     ensures { OnOk result (list.new.items ≡ list.old.items ++ numbers_in (headers_in runs.now)) }
 {

@@ -66,7 +66,7 @@ impl Run {
         self.first.mark.as_ref()
     }
 
-    /// Whether a push has its header among them, whatever it tells of what is known.
+    /// Whether a push has its header among them, whatever its `known`.
     pub(crate) fn heads(&self, push: &Push) -> bool
         ensures { result ≡ list_any (is_headed push.now) self.now }
     {
@@ -99,14 +99,13 @@ impl Run {
         }
     }
 
-    /// Appends the numbers of each.
     pub(crate) fn put(&self, list: &mut Vec<PushNumbers>) -> Result<(), Memory>
         ensures { OnOk result (list.new.items ≡ list.old.items ++ numbers_in self.now) }
     {
         put_evenly(&self.first, self.step, self.more, list)
     }
 
-    /// Takes one more header, if that follows evenly; the second one says what the step is.
+    /// Takes one more header, if that follows evenly; the second one sets the step.
     pub(crate) fn add(&mut self, header: &PushHeader) -> bool
         ensures yes { IsTrue result → self.new ≡ self.old ++ header.now ∷ [] }
         ensures no { result ≡ false → self.new ≡ self.old }

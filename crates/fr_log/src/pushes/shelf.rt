@@ -53,7 +53,7 @@ impl Shelf {
         Ok(())
     }
 
-    /// Takes out what is at a version or above it: the cost is that of what goes. It takes no memory.
+    /// Takes out the batches at a version or above it, at the cost of these alone. It takes no memory.
     pub(crate) fn cut_from(&mut self, version: Version)
         ensures { self.new ≡ cut version self.old }
     {
@@ -62,7 +62,7 @@ impl Shelf {
         }
     }
 
-    /// Takes out what is at a version or below it: the cost is that of what goes. It takes no memory.
+    /// Takes out the batches at a version or below it, at the cost of these alone. It takes no memory.
     pub(crate) fn cut_through(&mut self, version: Version)
         ensures { self.new ≡ above version self.old }
     {

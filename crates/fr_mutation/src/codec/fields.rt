@@ -18,7 +18,6 @@ pub(super) struct Fields<'a> {
 impl<'a> Fields<'a> {
     ghost use Rattle.fr_mutation.specs.CodecFields.{lent_mutation};
 
-    /// The fields of a mutation.
     pub(super) fn of(mutation: &'a Mutation) -> Self
         ensures { lent_mutation result ≡ mutation.now }
     {

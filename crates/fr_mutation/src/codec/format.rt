@@ -16,7 +16,6 @@ pub(super) enum Format {
 }
 
 impl Format {
-    /// The byte of this format.
     pub(super) fn byte(self) -> u8
         ensures { result ≡ format_byte self }
     {
@@ -26,7 +25,6 @@ impl Format {
         }
     }
 
-    /// The format that has this byte.
     pub(super) fn from_byte(byte: u8) -> Option<Format>
         ensures { result ≡ format_with byte }
     {
@@ -70,7 +68,6 @@ impl Format {
     }
 }
 
-/// Whether one of the mutations is a compare-and-clear.
 fn has_compare_and_clear(mutations: &[Mutation]) -> bool
     ensures { result ≡ list_any is_compare_and_clear mutations.now }
 {

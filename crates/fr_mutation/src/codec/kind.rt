@@ -7,7 +7,7 @@ use crate::atomic::AtomicOp;
 use crate::mutation::Mutation;
 use fr_base::Bytes;
 
-/// What the byte before the fields of a mutation says.
+/// The kind in the byte before the fields of a mutation.
 #[derive(Clone, Copy, Debug, PartialEq, Eq)]
 pub(super) enum Kind {
     Set,
@@ -16,7 +16,6 @@ pub(super) enum Kind {
 }
 
 impl Kind {
-    /// The byte of this kind.
     pub(super) fn byte(self) -> u8
         ensures { result ≡ kind_byte self }
     {
@@ -27,7 +26,6 @@ impl Kind {
         }
     }
 
-    /// The kind that has this byte.
     pub(super) fn from_byte(byte: u8) -> Option<Kind>
         ensures { result ≡ kind_of byte }
     {

@@ -15,7 +15,7 @@ use crate::mutation::{MAX_KEY, MAX_VALUE, Mutation};
 use fr_base::Memory;
 use std::alloc::Global;
 
-/// A byte, and what follows it.
+/// A byte, and the rest.
 fn byte_at(bytes: &[u8]) -> Result<(u8, &[u8]), DecodeFault>
     ensures { Reads (λ x. (x.0, x.1.now)) result (byte_at bytes.now) }
 {
@@ -25,14 +25,14 @@ fn byte_at(bytes: &[u8]) -> Result<(u8, &[u8]), DecodeFault>
     }
 }
 
-/// So many bytes, and what follows them.
+/// So many bytes, and the rest.
 fn bytes_at(bytes: &[u8], len: usize) -> Result<(&[u8], &[u8]), DecodeFault>
     ensures { Reads (λ x. (x.0.now, x.1.now)) result (bytes_at len bytes.now) }
 {
     bytes.split_at_checked(len).ok_or(DecodeFault::Short)
 }
 
-/// A number of two bytes, at most the limit, and what follows it.
+/// A number of two bytes, at most the limit, and the rest.
 #[tactic(auto, unfolding(crate::specs::CodecReading::number_at))]
 fn u16_at(bytes: &[u8], limit: usize) -> Result<(usize, &[u8]), DecodeFault>
     ensures { Reads (λ x. (x.0, x.1.now)) result (number_at w16 limit bytes.now) }
@@ -45,7 +45,7 @@ fn u16_at(bytes: &[u8], limit: usize) -> Result<(usize, &[u8]), DecodeFault>
     Ok((number, rest))
 }
 
-/// A number of four bytes, at most the limit, and what follows it.
+/// A number of four bytes, at most the limit, and the rest.
 #[tactic(auto, unfolding(crate::specs::CodecReading::number_at))]
 fn u32_at(bytes: &[u8], limit: usize) -> Result<(usize, &[u8]), DecodeFault>
     ensures { Reads (λ x. (x.0, x.1.now)) result (number_at w32 limit bytes.now) }
@@ -58,7 +58,7 @@ fn u32_at(bytes: &[u8], limit: usize) -> Result<(usize, &[u8]), DecodeFault>
     Ok((number, rest))
 }
 
-/// A key or an end of a clear, and what follows it.
+/// A key or an end of a clear, and the rest.
 #[tactic(auto, unfolding(crate::specs::CodecReading::field_at))]
 fn key_at(bytes: &[u8]) -> Result<(&[u8], &[u8]), DecodeFault>
     ensures { Reads (λ x. (x.0.now, x.1.now)) result (key_at bytes.now) }
@@ -67,7 +67,7 @@ fn key_at(bytes: &[u8]) -> Result<(&[u8], &[u8]), DecodeFault>
     bytes_at(rest, len)
 }
 
-/// A value or a parameter, and what follows it.
+/// A value or a parameter, and the rest.
 #[tactic(auto, unfolding(crate::specs::CodecReading::field_at))]
 fn operand_at(bytes: &[u8]) -> Result<(&[u8], &[u8]), DecodeFault>
     ensures { Reads (λ x. (x.0.now, x.1.now)) result (operand_at bytes.now) }
@@ -76,26 +76,28 @@ fn operand_at(bytes: &[u8]) -> Result<(&[u8], &[u8]), DecodeFault>
     bytes_at(rest, len)
 }
 
-/// The kind of a mutation, which the format has, and what follows its byte.
+/// The kind of a mutation, which the format has, and the rest.
 #[tactic(auto, unfolding(crate::specs::CodecReading::kind_at))]
 fn kind_at(format: Format, bytes: &[u8]) -> Result<(Kind, &[u8]), DecodeFault>
     ensures { Reads (λ x. (x.0, x.1.now)) result (kind_at format bytes.now) }
 {
     let (byte, rest) = byte_at(bytes)?;
     let kind = Kind::from_byte(byte).ok_or(DecodeFault::UnknownKind)?;
+    // Otherwise a batch with that kind would have a second spelling, in format 1.
     if !format.has(kind) {
         return Err(DecodeFault::UnknownKind);
     }
     Ok((kind, rest))
 }
 
-/// The ends of a clear, and what follows them.
+/// The ends of a clear, and the rest.
 #[tactic(auto, unfolding(crate::specs::CodecReading::clear_at))]
 fn clear_at(bytes: &[u8]) -> Result<(Fields<'_>, &[u8]), DecodeFault>
     ensures { Reads (λ x. (lent_mutation x.0, x.1.now)) result (clear_at bytes.now) }
 {
     let (first, rest) = key_at(bytes)?;
     let (second, rest) = key_at(rest)?;
+    // Equal ends are a clear of no key, which a batch may have.
     if second.cmp(first).is_lt() {
         return Err(DecodeFault::Inverted);
     }
@@ -110,7 +112,7 @@ fn clear_at(bytes: &[u8]) -> Result<(Fields<'_>, &[u8]), DecodeFault>
     ))
 }
 
-/// A key with its value or parameter, and what follows them.
+/// A key with its value or parameter, and the rest.
 #[tactic(auto, unfolding(crate::specs::CodecReading::keyed_at))]
 fn keyed_at(kind: Kind, bytes: &[u8]) -> Result<(Fields<'_>, &[u8]), DecodeFault>
     ensures { Reads (λ x. (lent_mutation x.0, x.1.now)) result (keyed_at kind bytes.now) }
@@ -127,7 +129,7 @@ fn keyed_at(kind: Kind, bytes: &[u8]) -> Result<(Fields<'_>, &[u8]), DecodeFault
     ))
 }
 
-/// A mutation, and what follows it.
+/// A mutation, and the rest.
 #[tactic(auto, unfolding(crate::specs::CodecReading::mutation_at))]
 fn mutation_at(format: Format, bytes: &[u8]) -> Result<(Fields<'_>, &[u8]), DecodeFault>
     ensures { Reads (λ x. (lent_mutation x.0, x.1.now)) result (mutation_at format bytes.now) }
@@ -138,7 +140,7 @@ fn mutation_at(format: Format, bytes: &[u8]) -> Result<(Fields<'_>, &[u8]), Deco
     }
 }
 
-/// Whether one of so many mutations is a compare-and-clear, and what follows them.
+/// Whether one of so many mutations is a compare-and-clear, and the rest behind them.
 fn skip_mutations(format: Format, count: usize, bytes: &[u8]) -> Result<(bool, &[u8]), DecodeFault>
     ensures { Reads (λ x. (x.0, x.1.now)) result (found_in (mutations_at format count bytes.now)) }
 {
@@ -152,11 +154,12 @@ fn skip_mutations(format: Format, count: usize, bytes: &[u8]) -> Result<(bool, &
     Ok((found, rest))
 }
 
-/// What follows so many mutations, for which the format is needed.
+/// The rest behind so many mutations, for which the format is needed.
 fn skip_checked(format: Format, count: usize, bytes: &[u8]) -> Result<&[u8], DecodeFault>
     ensures { Reads (λ x. x.now) result (rest_of (checked_at format count bytes.now)) }
 {
     let (found, rest) = skip_mutations(format, count, bytes)?;
+    // Known only once all mutations were seen, so it comes after every other fault.
     if format.is_needless(found) {
         return Err(DecodeFault::NeedlessFormat);
     }
@@ -185,7 +188,7 @@ fn copy_mutations(
     Ok(mutations)
 }
 
-/// The format, and what follows its byte.
+/// The format, and the rest.
 #[tactic(auto, unfolding(crate::specs::CodecReading::format_at))]
 fn format_at(bytes: &[u8]) -> Result<(Format, &[u8]), DecodeFault>
     ensures { Reads (λ x. (x.0, x.1.now)) result (format_at bytes.now) }
@@ -195,7 +198,7 @@ fn format_at(bytes: &[u8]) -> Result<(Format, &[u8]), DecodeFault>
     Ok((format, rest))
 }
 
-/// The format, the number of mutations, and what follows them.
+/// The format, the number of mutations, and the rest.
 #[tactic(auto, unfolding(crate::specs::CodecReading::header_at))]
 fn header_at(bytes: &[u8]) -> Result<(Format, usize, &[u8]), DecodeFault>
     ensures { Reads (λ x. (x.0, x.1, x.2.now)) result (header_at bytes.now) }

@@ -17,6 +17,7 @@ pub fn encode(alloc: Global, batch: &Batch) -> Result<Vec<u8>, Memory>
     ensures { IfOk result (λ bytes. bytes.items ≡ spelled batch.now) }
 {
     let mutations = batch.mutations();
+    // Taken in one piece: a list that grows would be moved again and again.
     let mut out = Vec::with_capacity(alloc, spelled_len(mutations))?;
     out.push(Format::of(mutations).byte())?;
     out.extend_from_slice(&(mutations.len() as u16).to_be_bytes())?;
@@ -54,7 +55,6 @@ fn mutation_len(mutation: &Mutation) -> usize
     before + fields.first.len() + fields.second.len()
 }
 
-/// Writes a mutation at the end.
 fn put_mutation(out: &mut Vec<u8>, mutation: &Mutation) -> Result<(), Memory>
     requires { mutation_fault mutation.now ≡ None }
     ensures { OnOk result (out.new.items ≡ out.old.items ++ spelled_mutation mutation.now) }

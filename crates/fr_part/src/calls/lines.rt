@@ -21,7 +21,7 @@ pub fn read_ask(alloc: Global, line: &[u8]) -> Result<Ask, ScriptFault> {
     read_one(alloc, line, &ASK)
 }
 
-/// Reads a node, and what it tells.
+/// Reads a node and its reply.
 pub fn read_heard(alloc: Global, line: &[u8]) -> Result<(NodeId, Tell), ScriptFault> {
     read_one(alloc, line, &table::HEARD)
 }
@@ -36,8 +36,8 @@ pub fn read_coordinated(alloc: Global, line: &[u8]) -> Result<CoordState, Script
     read_one(alloc, line, &STATE)
 }
 
-/// Writes what a machine said in its last turn: a tell, or what it asks with what it says of a batch. Before its first
-/// turn that is null.
+/// Writes a machine's last turn: its reply, or its asks with a proxy's word on its batch. Before the first turn that is
+/// null.
 pub fn write_said(alloc: Global, said: &Said) -> Result<Vec<u8>, Memory>
     ensures { IfOk result (λ text. IsJson text.items) }
 {

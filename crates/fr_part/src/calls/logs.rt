@@ -220,7 +220,6 @@ fn write_records(alloc: Global, records: &[PeekedRecord]) -> Result<Vec<u8>, Mem
     Ok(bytes)
 }
 
-/// Appends the bytes of a record.
 #[tactic(auto, unfolding(crate::specs::Answers::spelled_record))]
 fn put_record(alloc: Global, bytes: &mut Vec<u8>, one: &PeekedRecord) -> Result<(), Memory>
     ensures { OnOk result (bytes.new.items ≡ bytes.old.items ++ spelled_record one.now) }

@@ -21,7 +21,7 @@ use fr_base::Step;
 use fr_forms::ScriptFault;
 use std::alloc::Global;
 
-/// Asks a machine what a line says, and gives the line of what it tells.
+/// Asks a machine what a line says, and gives its reply as a line.
 pub fn ask_line(alloc: Global, seat: &mut Seat, line: &[u8], out: &mut [u8], len: &mut usize) -> u32
     ensures turn { IsTurn (is_told result) seat.old seat.new (AnyAsk seat.old seat.new) }
     ensures among { IsAmong (0 ∷ 1 ∷ 3 ∷ 4 ∷ 7 ∷ 8 ∷ []) result }
@@ -39,7 +39,8 @@ pub fn ask_line(alloc: Global, seat: &mut Seat, line: &[u8], out: &mut [u8], len
     }
 }
 
-/// Has a machine hear what a line says, a node and what it tells, and gives the line of what it then asks.
+/// Has a machine hear the reply in a line, which also names the node that sent it, and gives the machine's next asks as
+/// a line.
 pub fn hear_line(
     alloc: Global,
     seat: &mut Seat,
@@ -67,8 +68,7 @@ pub fn hear_line(
     }
 }
 
-/// Has a proxy take a batch, whose version is to be so much above the one before, and gives the line of what it then
-/// asks.
+/// Has a proxy take a batch, whose version is to be so much above the one before, and gives the proxy's asks as a line.
 pub fn submit_to(
     alloc: Global,
     seat: &mut Seat,
@@ -131,7 +131,7 @@ pub fn tell_line(alloc: Global, seat: &Seat, which: LineOf, out: &mut [u8], len:
     }
 }
 
-/// The line of what a machine asks now.
+/// The asks of a machine that wait for a reply, as a line.
 fn next_line(alloc: Global, part: &Part) -> Result<Vec<u8>, PartFault>
     ensures json { IfOk result (λ line. IsJson line.items) }
     ensures kind { result ≡ Err Kind ↔ asks_of part.now ≡ None }
@@ -146,7 +146,6 @@ fn next_line(alloc: Global, part: &Part) -> Result<Vec<u8>, PartFault>
     }
 }
 
-/// The line of where a machine stands.
 fn last_line(alloc: Global, part: &Part) -> Result<Vec<u8>, PartFault>
     ensures json { IfOk result (λ line. IsJson line.items) }
     ensures kind { result ≡ Err Kind ↔ last_of part.now ≡ None }

@@ -18,13 +18,12 @@ use fr_log::{LogRefusal, LogTell};
 use std::alloc::Global;
 
 impl Proxy {
-    /// Hears what a node tells; answers what is then to be said of the batch under way, and the new asks
-    /// in order. The number of the batch brings the pushes of it to all logs of the generation. It is
-    /// committed at the tell by which the last of them is known to hold it. It ended, and with it the
-    /// proxy, if a log of the generation is stopped or the sequencer has no version left. Anything else
-    /// changes nothing: a repeat, a tell of another version, generation or request, a number from which
-    /// no push can be made. Only the tell with the batch's number takes memory; if there is none,
-    /// nothing changes.
+    /// Hears a node's reply. Answers the outcome of the batch in flight, and the new asks in order. The number of the
+    /// batch brings its pushes to all logs of the generation. The batch is committed at the reply by which the last of
+    /// them is known to hold it. It ended, and with it the proxy, if a log of the generation is stopped or the
+    /// sequencer has no version left. Any other reply changes nothing: a repeat, one about another version, generation
+    /// or request, a number from which no push can be made. Only the reply with the batch's number takes memory; if
+    /// there is none, nothing changes.
     pub fn hear(
         &mut self,
         alloc: Global,
@@ -41,6 +40,8 @@ impl Proxy {
         match self.heeded(from, tell) {
             Heeded::Ignored => Ok((Outcome::Waiting, Vec::new(alloc))),
             Heeded::Placed { place } => {
+                // The pushes first: if memory runs out the batch still has no number, and the reply can be heard again
+                // (invariant 8).
                 let asks = self.first_pushes(alloc, &place)?;
                 self.place(place);
                 Ok((Outcome::Waiting, asks))
@@ -86,6 +87,7 @@ impl Proxy {
         ensures { self.new ≡ after_heeded self.old (HeldByAll version) }
     {
         self.under_way = None;
+        // Every log holds the version, so it survives each end of the epoch: later pushes say so (invariant 6).
         self.known = version;
     }
 
@@ -94,10 +96,11 @@ impl Proxy {
         ensures { self.new ≡ after_heeded self.old Cut }
     {
         self.under_way = None;
+        // Some logs may hold the batch, so the next epoch decides on it. A further batch could never be held by all
+        // (invariant 7).
         self.over = true;
     }
 
-    /// What a tell is to it.
     fn heeded(&self, from: NodeId, tell: &Tell) -> Heeded
         ensures { result ≡ heeded self.now from tell.now }
     {
@@ -107,7 +110,7 @@ impl Proxy {
         }
     }
 
-    /// What a tell is to it while this batch is under way: only its own sequencer and logs count.
+    /// The effect of a reply on the batch in flight: only its own sequencer and logs count.
     fn heed(&self, under_way: &UnderWay, from: NodeId, tell: &Tell) -> Heeded
         ensures { result ≡ heed self.now (open_of under_way.now) from tell.now }
     {
@@ -124,10 +127,11 @@ impl Proxy {
         }
     }
 
-    /// What the sequencer of an epoch tells: that of another one counts nothing.
+    /// The effect of a sequencer's reply: one of another epoch has none.
     fn heed_sequencer(&self, under_way: &UnderWay, epoch: Epoch, tell: &SeqTell) -> Heeded
         ensures { result ≡ heed self.now (open_of under_way.now) (NodeId.Sequencer epoch) (Tell.Seq tell.now) }
     {
+        // Another epoch numbers the same versions for other batches (invariant 4).
         if epoch == self.epoch {
             self.heed_seq(under_way, tell)
         } else {
@@ -135,10 +139,11 @@ impl Proxy {
         }
     }
 
-    /// What a log tells: that of another epoch, or beyond the generation's logs, counts nothing.
+    /// The effect of a log's reply: one of another epoch, or of a number beyond the generation's logs, has none.
     fn heed_log_of(&self, under_way: &UnderWay, epoch: Epoch, log: u8, tell: &LogTell) -> Heeded
         ensures { result ≡ heed self.now (open_of under_way.now) (NodeId.Log epoch log) (Tell.Log tell.now) }
     {
+        // The same of logs. One with a greater number does not belong to the generation (invariant 4).
         if epoch == self.epoch && log < self.shape.m() {
             self.heed_log(under_way, log, tell)
         } else {
@@ -146,7 +151,7 @@ impl Proxy {
         }
     }
 
-    /// What its sequencer tells.
+    /// The effect of a reply of the proxy's own sequencer.
     fn heed_seq(&self, under_way: &UnderWay, tell: &SeqTell) -> Heeded
         ensures { result ≡ heed_seq self.now (open_of under_way.now) tell.now }
     {
@@ -168,7 +173,9 @@ impl Proxy {
                 }
             }
             SeqTell::Refused { why } => match why {
+                // The epoch has no version left for any batch.
                 SeqRefusal::Spent => Heeded::Cut,
+                // A late reply to an earlier request: the batch's own number is still to come.
                 SeqRefusal::OutOfTurn => Heeded::Ignored,
             },
         }
@@ -178,18 +185,21 @@ impl Proxy {
     fn may_place(&self, under_way: &UnderWay, request: u64, prev: Version, version: Version) -> bool
         ensures { result ≡ may_place self.now (open_of under_way.now) request prev version }
     {
+        // A repeat must not move the batch: logs may hold it at its place already (invariant 2).
         let is_wanted = request == under_way.request && under_way.place.is_none();
         let is_step = Step::between(prev, version).is_some();
+        // A push says what is known, and that is never above the version before its own (invariant 6).
         is_wanted && self.known <= prev && is_step
     }
 
-    /// What a log of the generation tells.
+    /// The effect of a reply of a log of the generation.
     fn heed_log(&self, under_way: &UnderWay, log: u8, tell: &LogTell) -> Heeded
         ensures { result ≡ heed_log self.now (open_of under_way.now) log tell.now }
     {
         match tell {
             LogTell::Held { version } => self.heed_held(under_way, log, *version),
             LogTell::Refused { why } => match why {
+                // A locked log takes no push any more, so not all logs will ever hold the batch (invariant 5).
                 LogRefusal::Stopped => Heeded::Cut,
                 _ => Heeded::Ignored,
             },
@@ -197,12 +207,13 @@ impl Proxy {
         }
     }
 
-    /// A log of the generation holds a version.
+    /// The effect of a log of the generation that holds a version.
     fn heed_held(&self, under_way: &UnderWay, log: u8, version: Version) -> Heeded
         ensures { result ≡ heed_held self.now (open_of under_way.now) (open_of under_way.now).place log version }
     {
         match under_way.place {
             Some(place) => {
+                // Each log counts once: a repeated Held must not stand for one that is missing (invariant 5).
                 if version != place.version || under_way.is_held_by(log) {
                     Heeded::Ignored
                 } else if under_way.held.len() + 1 == usize::from(self.shape.m()) {
@@ -211,6 +222,8 @@ impl Proxy {
                     Heeded::HeldBy { log }
                 }
             }
+            // The version is not known yet, so nothing says that the log holds this batch. It is pushed, and tells so
+            // again (invariant 5).
             None => Heeded::Ignored,
         }
     }

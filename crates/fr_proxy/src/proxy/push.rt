@@ -38,7 +38,6 @@ impl Proxy {
         }
     }
 
-    /// The ask for the number of a batch.
     fn number_asks(&self, alloc: Global, under_way: &UnderWay) -> Result<Vec<(NodeId, Ask)>, Memory>
         ensures { IfOk result (λ asks. asks.items ≡ number_ask self.now (open_of under_way.now) ∷ []) }
     {
@@ -84,6 +83,7 @@ impl Proxy {
             .split(alloc, &under_way.batch, self.shape.m(), self.shape.k())?;
         let mut asks = Vec::with_capacity(alloc, split.len())?;
         let mut log = 0;
+        // To every log, also with no body: each log's chain has every version of the epoch (invariant 1).
         for bodies in split {
             self.add_push(&mut asks, under_way, place, log, bodies)?;
             log += 1;
@@ -108,6 +108,7 @@ impl Proxy {
               push_with self.now place.now bodies.items,
             ) ∷ [])) }
     {
+        // Its reply is there, and a push again would only cost the network.
         if under_way.is_held_by(log) {
             return Ok(());
         }
@@ -115,7 +116,6 @@ impl Proxy {
         Ok(())
     }
 
-    /// The push of bodies at a place.
     fn push(&self, place: &Place, bodies: Vec<Body>) -> Ask
         requires place { IsPlace self.now.known place.now }
         requires rising { IsTrue (is_rising_from 0 bodies.items) }
@@ -127,7 +127,6 @@ impl Proxy {
         }
     }
 
-    /// A log of the generation.
     fn log(&self, index: u8) -> NodeId
         ensures { result ≡ NodeId.Log self.now.epoch index }
     {

@@ -29,6 +29,7 @@ pub(super) fn read_all<M: Recorded, D: Device>(
     ensures sound { M.IsSound machine.new }
     ensures same { M.fresh machine.new ≡ M.fresh machine.old }
 {
+    // In order, because a record stands for a change of the state that those before it led to (invariant 1).
     for i in 0..file.len() {
         let change = match file.get(alloc, i) {
             Ok(Some(change)) => change,
@@ -37,6 +38,8 @@ pub(super) fn read_all<M: Recorded, D: Device>(
         };
         match machine.read(alloc, change.as_slice()) {
             Ok(()) => {}
+            // Nothing behind it is read: no ask leads to the state in which it would have to be understood
+            // (invariant 5).
             Err(RecordReadFault::Broken) => return Err(NodeFault::Broken),
             Err(RecordReadFault::Memory) => return Err(NodeFault::Memory),
         }

@@ -32,6 +32,7 @@ pub(super) fn reopen_idle<D: Device>(
 {
     left_law();
     match file.reopen(alloc) {
+        // No group was in flight, so the device has the records that the machine is made of (invariant 1).
         Ok(()) => Ok(Reopened::Before),
         Err(fault) => Err(node_fault(fault)),
     }
@@ -69,10 +70,13 @@ where
     ensures kept { OnOk result (LeavesOnly D.Led D.disk (IsAtRest file.new.records) file.new.device) }
 {
     left_law();
+    // Measured before the file is opened: afterwards it has the records that a crash left.
     let before = file.len();
     let Ok(place) = machine.place(alloc) else {
         return Err(NodeFault::Memory);
     };
+    // Before the file is opened: that cannot be undone if it is found with the asks' records and memory runs out for
+    // them (invariant 2).
     match take_all(machine, alloc, asks) {
         Ok(_) => {}
         Err(_) => {
@@ -82,7 +86,9 @@ where
     }
     match file.reopen(alloc) {
         Ok(()) => {
+            // A crash leaves the whole group or none of it, so one record more tells (invariant 3).
             if file.len() > before {
+                // Only here, since nothing brings back what the asks let go (invariant 2).
                 machine.settle();
                 return Ok(Reopened::After);
             }

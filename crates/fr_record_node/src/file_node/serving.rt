@@ -14,7 +14,7 @@ use fr_base::{Machine, Memory, NodeFault};
 use fr_record::{Device, Records, left_law};
 use std::alloc::Global;
 
-/// What asks were told, and their records.
+/// The replies to asks, and their records.
 #[derive(Drop)]
 pub(super) struct Taken<T> {
     tells: Vec<T>,
@@ -39,9 +39,12 @@ where
     ensures asked { OnOk result (M.IsAsk ask.now) }
     ensures err { OnErr result ((machine.new ≡ machine.old) ⊎ (machine.new ≡ M.kept machine.old ask.now)) }
 {
+    // Before the ask is taken: its records are those of the state that it meets (invariant 4).
     let mut group = machine.records(alloc, ask)?;
     taken.group.append(&mut group)?;
+    // A copy, because the caller's asks are taken a second time if the device fails (`reopen`).
     let copy = M::copy_ask(alloc, ask)?;
+    // Kept and not settled, so that the machine can go back if the file refuses the records (invariant 2).
     let tell = machine.keep(alloc, copy)?;
     taken.tells.push(tell)?;
     Ok(())
@@ -94,6 +97,7 @@ fn put_group<D: Device>(
     ensures any_moment { Throughout D.Led D.disk (InFlight file.old.records (records_of group.now)) file.old.device file.new.device }
 {
     let _is_failed = file.is_failed();
+    // No sync for asks that change nothing: a read is answered while the disk is busy, and also if it is full.
     if group.is_empty() {
         return Ok(());
     }
@@ -142,15 +146,19 @@ where
 {
     left_law();
     let _is_failed = file.is_failed();
+    // Before the first ask, so that each failure below has a state to go back to (invariant 2).
     let Ok(place) = machine.place(alloc) else {
         return Err(NodeFault::Memory);
     };
+    // The machine before the file: each ask's records are those in the state that the asks before it left
+    // (invariant 4).
     let Ok(taken) = take_all(machine, alloc, asks) else {
         machine.go_back(place);
         return Err(NodeFault::Memory);
     };
     match put_group(file, alloc, taken.group.as_slice()) {
         Ok(()) => {
+            // Only once the records are on the device, since nothing brings back what the asks let go (invariant 2).
             machine.settle();
             Ok(taken.tells)
         }

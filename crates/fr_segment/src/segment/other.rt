@@ -34,7 +34,7 @@ impl<D: Device> Segment<D> {
         self.device.capacity()
     }
 
-    /// What the device begins with, whether the file works or not.
+    /// The beginning of the device, whether the file works or not.
     pub(crate) fn first(&mut self, alloc: Global, identity: &[u8]) -> Result<First, OpenFault>
         ensures missing { (result ≡ Ok First.Missing) → length (D.disk self.old.device).content < 2 }
         ensures closed { (result ≡ Ok First.Closed) → HoldsNothing (D.disk self.old.device).content }
@@ -53,8 +53,8 @@ impl<D: Device> Segment<D> {
         read_first(alloc, &mut self.device, identity)
     }
 
-    /// Begins a file of one group on another device, spelled as `new`, and goes on with it. The device so far, with its file
-    /// as it is, becomes the other one. A refusal leaves this file as it is.
+    /// Begins a file of one group on another device, spelled as `new`, and goes on with it. The device so far, with its
+    /// file as it is, becomes the other one. A refusal leaves this file as it is.
     pub(crate) fn turn(
         &mut self,
         alloc: Global,
@@ -105,8 +105,8 @@ impl<D: Device> Segment<D> {
         Ok(())
     }
 
-    /// Goes on with the file that another device holds, whatever a crash made of it. The device so far becomes the other
-    /// one. A refusal leaves this file as it is.
+    /// Goes on with the file that another device holds, whatever a crash made of it. The device so far becomes the
+    /// other one. A refusal leaves this file as it is.
     pub(crate) fn take_over(&mut self, alloc: Global, other: &mut D) -> Result<(), RecordFault>
         ensures groups { OnOk result (StandsFor (D.disk other.old).content self.new.groups) }
         ensures works { OnOk result (self.new.is_failed ≡ false) }

@@ -19,8 +19,8 @@ use std::alloc::Global;
 
 impl<D: Device> Segments<D> {
     /// Two files with no records, on two devices that they are the only ones to use. The first is number 1, the second
-    /// holds nothing. What the devices held is given up, and until this answers a crash may leave a part of it as a pair:
-    /// so call it where `open` answers `Unmade`.
+    /// holds nothing. What the devices held is given up, and until this answers a crash may leave a part of it as a
+    /// pair: so call it where `open` answers `Unmade`.
     pub fn make(alloc: Global, first: D, second: D, identity: Bytes) -> Result<Self, RecordFault>
         ensures records { IfOk result (λ pair. own_records pair.groups ≡ []) }
         ensures works { IfOk result (λ pair. pair.health ≡ Health.Works) }
@@ -53,8 +53,8 @@ impl<D: Device> Segments<D> {
         })
     }
 
-    /// The pair that two devices hold, in either order, whatever a crash made of it. A refusal drops the devices. The clause
-    /// `gone` says what a crash may then have left, of devices to which the calls led.
+    /// The pair that two devices hold, in either order, whatever a crash made of it. A refusal drops the devices. The
+    /// clause `gone` says what a crash may then have left, of devices to which the calls led.
     pub fn open(alloc: Global, first: D, second: D, identity: Bytes) -> Result<Self, OpenFault>
         ensures records { IfOk result (λ pair. PairStandsFor identity (own_records pair.groups) (D.disk first).content (D.disk second).content) }
         ensures works { IfOk result (λ pair. pair.health ≡ Health.Works) }
@@ -87,7 +87,6 @@ impl<D: Device> Segments<D> {
         }
     }
 
-    /// The pair whose current device this is.
     fn with(
         alloc: Global,
         current: D,

@@ -13,7 +13,7 @@ use fr_record::{Device, RecordFault};
 use std::alloc::Global;
 
 impl<D: Device> Segments<D> {
-    /// Which device has the current file, by what both begin with.
+    /// Which device has the current file, from the beginnings of both.
     pub(crate) fn turn(&mut self, alloc: Global) -> Result<Turn, RecordFault>
         ensures former { (n : ℕ) → (result ≡ Ok (Turn.Former n)) → IsOlder self.old.number self.old.identity (D.disk self.old.other).content }
         ensures latter { (n : ℕ) → (result ≡ Ok (Turn.Latter n))
@@ -33,7 +33,8 @@ impl<D: Device> Segments<D> {
         ensures device { (result ≡ Err RecordFault.Device)
             → min (D.failures_of self.new.current + D.failures_of self.new.other) (2 ^ 64 - 1)
             ≡ min (min (D.failures_of self.old.current + D.failures_of self.old.other) (2 ^ 64 - 1) + 1) (2 ^ 64 - 1) }
-        ensures no_failure { OnOk result ((D.failures_of self.new.current ≡ D.failures_of self.old.current) × (D.failures_of self.new.other ≡ D.failures_of self.old.other)) }
+        ensures no_failure { OnOk result ((D.failures_of self.new.current ≡ D.failures_of self.old.current)
+            × (D.failures_of self.new.other ≡ D.failures_of self.old.other)) }
         ensures capacity { (D.capacity_of self.new.current ≡ D.capacity_of self.old.current) × (D.capacity_of self.new.other ≡ D.capacity_of self.old.other) }
     {
         let former = match self.current.first(alloc, self.identity.as_slice()) {
@@ -51,7 +52,7 @@ impl<D: Device> Segments<D> {
         }
     }
 
-    /// What an opening answers to a fault of a device that holds a file of this pair, or nothing.
+    /// The answer of an opening to a fault of a device that holds a file of this pair, or nothing.
     fn refused(&mut self, fault: OpenFault) -> RecordFault
         requires only { (fault ≡ OpenFault.Device) ⊎ (fault ≡ OpenFault.Memory) }
         ensures only { (result ≡ RecordFault.Device) ⊎ (result ≡ RecordFault.Memory) }

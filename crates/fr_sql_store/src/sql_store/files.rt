@@ -34,6 +34,7 @@ fn opened<D: FaithfulDisk + Drop>(
     ensures found { IfOk result (λ conn. Finds files conn) }
     ensures trouble { IfErr result (IsTrouble MeetsAll) }
 {
+    // After a sync that failed the system may show bytes that are on no disk, so no later sync can be believed.
     if !files.may_be_used() {
         return Err(StoreFault::Device);
     }
@@ -50,6 +51,7 @@ fn begun<S: Backing + Drop>(alloc: Global, conn: Connection<S>) -> Result<SqlSto
     ensures works { IfOk result (λ store. store.failed ≡ false) }
     ensures trouble { IfErr result (IsTrouble MeetsAll) }
 {
+    // Nothing is added to a database that lists anything else, since it is somebody else's.
     if !has_no_table(&conn) {
         return Err(StoreFault::Device);
     }
@@ -62,6 +64,7 @@ fn read<S: Backing + Drop>(alloc: Global, conn: Connection<S>) -> Result<SqlStor
     ensures works { IfOk result (λ store. store.failed ≡ false) }
     ensures trouble { IfErr result (IsTrouble MeetsAll) }
 {
+    // A connection that was just opened knows that its tables obey their schema, which `find` relies on.
     let mut conn = open_again(alloc, conn)?;
     let found = find(&mut conn)?;
     Ok(SqlStore::over(alloc, conn, found))
@@ -135,7 +138,7 @@ impl<S: Backing + Drop> SqlStore<S> {
 
 impl<D: FaithfulDisk + Drop> SqlStore<FileStore<D>> {
     /// An empty store in files that hold no table, with nothing applied. A crash on the way leaves files that hold
-    /// no table, or the whole empty store. What refuses drops the files.
+    /// no table, or the whole empty store. A refusal drops the files.
     ///
     /// # Errors
     ///
@@ -149,7 +152,7 @@ impl<D: FaithfulDisk + Drop> SqlStore<FileStore<D>> {
     }
 
     /// The store that files hold. The files are not trusted: the tables are compared with those of a store, and what
-    /// is none is refused, also files in which no store was made yet. What refuses drops the files.
+    /// is none is refused, also files in which no store was made yet. A refusal drops the files.
     ///
     /// # Errors
     ///
@@ -163,7 +166,7 @@ impl<D: FaithfulDisk + Drop> SqlStore<FileStore<D>> {
         read(alloc, opened(alloc, files)?)
     }
 
-    /// Gives the files back, which then hold what the store did. What refuses drops the files.
+    /// Gives the files back, which then hold what the store did. A refusal drops the files.
     ///
     /// # Errors
     ///

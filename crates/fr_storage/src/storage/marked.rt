@@ -67,7 +67,7 @@ impl<S: ShardStore> Storage<S> {
         }
     }
 
-    /// Why a state is refused, by what the server keeps.
+    /// Why a state is refused, from the numbers that the server keeps beside its store.
     fn marked_refusal(&self, state: &CoordState) -> Option<StorageFault>
         requires { self.now.failed ≡ false }
         ensures { result ≡ marked_fault (storage_of S.state self.now) state.now }

@@ -34,7 +34,6 @@ pub(crate) fn crashed(nodes: &mut Nodes, node: NodeId) -> Result<Answer, NotEnab
     Ok(Answer::Done)
 }
 
-/// A log is lost, for good.
 pub(crate) fn lost(nodes: &mut Nodes, log: LogId) -> Result<Answer, NotEnabled>
     requires kept { IsKept nodes.old }
     ensures turn { Steps (state_of nodes.old) (state_of nodes.new) (event.Lose log) result }

@@ -47,6 +47,7 @@ impl Nodes {
         ensures stays { IsKept self.new }
     {
         node_laws();
+        // Before the cell is asked: a node that moved without its turn would be one of no run.
         self.turns.reserve()?;
         let told = ask_cell(alloc, &mut self.cells, usize::from(index), ask.copy()?)?;
         self.turns.push_reserved(Turn::Cell {
@@ -82,6 +83,7 @@ impl Nodes {
         ensures stays { IsKept self.new }
     {
         node_laws();
+        // A log that is made and not asked is what its turns say, so this may stay if memory runs out below.
         self.make_log(alloc, id)?;
         self.turns.reserve()?;
         let told = ask_log(alloc, &mut self.logs, (id.epoch, id.index), ask.copy()?)?;
@@ -94,7 +96,7 @@ impl Nodes {
         Ok(told.handed)
     }
 
-    /// Makes a log, if it was never asked. What a world is by its turns stays.
+    /// Makes a log, if it was never asked. The world's turns stay, and what follows from them.
     fn make_log(&mut self, alloc: Global, id: LogId) -> Result<(), Memory>
         requires kept { IsKept self.old }
         requires there { id.index < nodes.logs_at (state_of self.old).config (state_of self.old).turns id.epoch }
@@ -110,7 +112,6 @@ impl Nodes {
         keep_log(&mut self.logs, place, new)
     }
 
-    /// A log that was never asked.
     pub(crate) fn new_log(&self, alloc: Global, id: LogId) -> Result<Log, Memory>
         requires kept { IsKept self.now }
         requires there { id.index < nodes.logs_at (state_of self.now).config (state_of self.now).turns id.epoch }
@@ -160,7 +161,6 @@ impl Nodes {
         Ok(told)
     }
 
-    /// The version of the mark of an epoch.
     pub(crate) fn mark_version(&self, epoch: Epoch) -> Version
         requires { IsKept self.now }
         ensures { result ≡ nodes.mark_version (nodes.generation_at (state_of self.now).config (state_of self.now).turns epoch) }

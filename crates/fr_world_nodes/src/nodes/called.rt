@@ -23,7 +23,7 @@ use fr_run::laws::node_laws;
 use std::alloc::Global;
 
 impl Nodes {
-    /// A proxy hears a tell; answers what it says of its batch.
+    /// A proxy hears a reply; answers its word on its batch.
     pub fn tell_proxy(
         &mut self,
         alloc: Global,
@@ -95,6 +95,7 @@ impl Nodes {
         node_laws();
         self.keep_proxy_of(epoch, proxy)?;
         self.turns.reserve()?;
+        // Before the proxy takes the batch, since afterwards nothing may fail.
         let kept = batch.copy()?;
         let room = room(alloc)?;
         let ask = submit(&mut self.proxies, (epoch, proxy), step, batch);

@@ -32,7 +32,7 @@ impl Nodes {
         self.storages.get(usize::from(tag.get()))
     }
 
-    /// What the storage server of a tag answers a read of a key at a version.
+    /// The answer of a tag's storage server to a read of a key at a version.
     pub fn read(
         &mut self,
         alloc: Global,
@@ -91,7 +91,7 @@ impl Nodes {
         }
     }
 
-    /// What others see of a node's last state.
+    /// A node's last state as others see it.
     pub fn last_of(&self, alloc: Global, node: &NodeId) -> Result<Option<Last>, Memory>
         requires { IsKept self.now }
         ensures { IfOk result (λ last. last ≡ last_at (state_of self.now).config (state_of self.now).turns node.now) }
@@ -112,7 +112,6 @@ impl Nodes {
         }
     }
 
-    /// What others see of a cell.
     fn last_of_cell(&self, alloc: Global, index: u8) -> Result<Option<Last>, Memory>
         requires { IsKept self.now }
         ensures { IfOk result (λ last. last ≡ last_at (state_of self.now).config (state_of self.now).turns (node.Cell index)) }
@@ -123,7 +122,6 @@ impl Nodes {
         }
     }
 
-    /// What others see of a log.
     fn last_of_log(&self, alloc: Global, epoch: Epoch, index: u8) -> Result<Option<Last>, Memory>
         requires { IsKept self.now }
         ensures { IfOk result (λ last. last ≡ last_at (state_of self.now).config (state_of self.now).turns (node.Log epoch index)) }
@@ -140,7 +138,6 @@ impl Nodes {
         }
     }
 
-    /// What others see of a sequencer.
     fn last_of_sequencer(&self, alloc: Global, epoch: Epoch) -> Result<Option<Last>, Memory>
         requires { IsKept self.now }
         ensures { IfOk result (λ last. last ≡ last_at (state_of self.now).config (state_of self.now).turns (node.Sequencer epoch)) }
@@ -156,7 +153,6 @@ impl Nodes {
         }
     }
 
-    /// What others see of a storage server.
     fn last_of_server(&self, alloc: Global, tag: Tag) -> Result<Option<Last>, Memory>
         requires { IsKept self.now }
         ensures { IfOk result (λ last. last ≡ last_at (state_of self.now).config (state_of self.now).turns (node.Storage tag)) }

@@ -28,7 +28,6 @@ pub enum OpenFault {
     Fault(StoreFault),
 }
 
-/// What an error of an open is.
 fn open_fault(error: Error) -> OpenFault
     ensures { IsOpenFault result }
 {
@@ -111,7 +110,7 @@ fn recognized_or_made<S: Backing + Drop>(
 
 impl<D: FaithfulDisk + Drop> SqlStore<FileStore<D>> {
     /// The store that files hold, or an empty one in files that hold no table yet, with nothing applied. The files are
-    /// not trusted: what holds something else is refused. What refuses drops the files.
+    /// not trusted: what holds something else is refused. A refusal drops the files.
     ///
     /// # Errors
     ///
