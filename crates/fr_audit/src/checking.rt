@@ -1,16 +1,18 @@
 //! Whether journals are a run.
 ghost use Rattle.std.specs.Prelude.{◌≡◌, ◌≢◌, ◌<◌, None, length, map, Err, IfErr, IfOk, Ok, OnOk};
 ghost use Rattle.fr_audit.specs.Audited as rule;
-ghost use Rattle.fr_audit.specs.Checking.{after_this, before_at};
+ghost use Rattle.fr_audit.specs.Reads as reads;
+ghost use Rattle.fr_audit.specs.Checking.{after_this, before_at, read_at};
 ghost use Rattle.fr_audit_journal.specs.Placed.{placed_of};
 ghost use Rattle.fr_run.specs.At.{last_at};
 
 use crate::entry::{event_of, says};
 use crate::fault::AuditFault;
 use crate::finding::{Cause, Finding};
-use fr_audit_journal::{Journal, NodeEntry, merge};
-use fr_base::{Memory, NodeId};
+use fr_audit_journal::{Act, Journal, NodeEntry, merge};
+use fr_base::{Bytes, Memory, NodeId, Tag, Version};
 use fr_run::NotEnabled;
+use fr_storage::ReadFault;
 use fr_world::{Config, World};
 use std::alloc::Global;
 use std::cmp::Ordering;
@@ -94,7 +96,8 @@ fn is_same_place(one: &NodeEntry, other: &NodeEntry) -> bool
     order == Ordering::Equal
 }
 
-/// Makes the event that an entry is, or says what is found there; the world is given up then.
+/// Makes the event that an entry is, or looks up the read that it is, or says what is found there; the world is given up
+/// then.
 fn enter(
     alloc: Global,
     world: World,
@@ -110,6 +113,31 @@ fn enter(
     if repeated {
         return Err(no_run(number, Cause::Repeated));
     }
+    match &entry.entry.act {
+        Act::Read {
+            key,
+            version,
+            value,
+        } => match entry.node {
+            NodeId::Storage { tag } => answered(alloc, world, number, tag, key, *version, value),
+            _ => Err(no_run(number, Cause::NoSuchAct)),
+        },
+        _ => happened(alloc, world, number, entry),
+    }
+}
+
+/// Makes the event that an entry is, which is no read.
+fn happened(
+    alloc: Global,
+    world: World,
+    number: usize,
+    entry: &NodeEntry,
+) -> Result<World, Finding>
+    ensures config { IfOk result (λ after. after.config ≡ world.config) }
+    ensures turns { IfOk result (λ after. rule.after_act world.config world.turns number (placed_of entry.now) None ≡ Ok after.turns) }
+    ensures finding { IfErr result (λ finding. finding ≢ Finding.Memory
+        → rule.after_act world.config world.turns number (placed_of entry.now) None ≡ Err finding) }
+{
     let event = match event_of(entry.node, &entry.entry.act) {
         Ok(Some(event)) => event,
         Ok(None) => return Err(no_run(number, Cause::NoSuchAct)),
@@ -125,6 +153,57 @@ fn enter(
         }
         Err(NotEnabled::Memory) => Err(Finding::Memory),
         Err(why) => Err(no_run(number, Cause::NotEnabled(why))),
+    }
+}
+
+/// Asks the world for what the storage server of a tag answers a read; the world stays as it is.
+fn answered(
+    alloc: Global,
+    world: World,
+    number: usize,
+    tag: Tag,
+    key: &Bytes,
+    version: Version,
+    value: &Option<Bytes>,
+) -> Result<World, Finding>
+    ensures config { IfOk result (λ after. after.config ≡ world.config) }
+    ensures turns { IfOk result (λ after. rule.after_read world.config world.turns number (read_at tag key.now version value.now) ≡ Ok after.turns) }
+    ensures finding { IfErr result (λ finding. finding ≢ Finding.Memory
+        → rule.after_read world.config world.turns number (read_at tag key.now version value.now) ≡ Err finding) }
+{
+    let mut world = world;
+    match world.read(alloc, tag, key, version) {
+        None => Err(no_run(number, Cause::NotEnabled(NotEnabled::NoSuchNode))),
+        // A world's store fails for want of memory alone.
+        Some(Err(ReadFault::Store(_))) => Err(Finding::Memory),
+        Some(answer) => {
+            if is_answer(&answer, value) {
+                Ok(world)
+            } else {
+                Err(Finding::ReadDiffers { at: number, answer })
+            }
+        }
+    }
+}
+
+/// Whether an answer to a read is this value.
+fn is_answer(answer: &Result<Option<Bytes>, ReadFault>, value: &Option<Bytes>) -> bool
+    ensures { result ≡ reads.is_answer answer.now value.now }
+{
+    match answer {
+        Ok(answered) => is_same_value(answered, value),
+        Err(_) => false,
+    }
+}
+
+/// Whether two values are the same, or there is neither.
+fn is_same_value(one: &Option<Bytes>, other: &Option<Bytes>) -> bool
+    ensures { result ≡ reads.is_same_value one.now other.now }
+{
+    match (one, other) {
+        (None, None) => true,
+        (Some(one), Some(other)) => one == other,
+        _ => false,
     }
 }
 

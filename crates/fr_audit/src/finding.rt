@@ -4,8 +4,9 @@ ghost use Rattle.fr_audit.specs.Audited as rule;
 
 use crate::fault::AuditFault;
 use fr_ask::Last;
-use fr_base::NodeId;
+use fr_base::{Bytes, NodeId};
 use fr_run::{Answer, NotEnabled};
+use fr_storage::ReadFault;
 use thiserror::Error;
 
 /// Why an entry is no event that can happen there. Of several reasons the first in the order of these variants is told.
@@ -39,6 +40,13 @@ pub enum Finding {
     /// There is no memory.
     #[error("out of memory")]
     Memory,
+    /// This entry is a read that the storage server answers otherwise: with this value, or it refuses it for this
+    /// reason. As a fault it is `TellDiffers`.
+    #[error("tell differs at {at}")]
+    ReadDiffers {
+        at: usize,
+        answer: Result<Option<Bytes>, ReadFault>,
+    },
 }
 
 impl Finding {
@@ -51,6 +59,7 @@ impl Finding {
             Finding::TellDiffers { at, .. } => AuditFault::TellDiffers { at: *at },
             Finding::StateDiffers { node, .. } => AuditFault::StateDiffers { node: *node },
             Finding::Memory => AuditFault::Memory,
+            Finding::ReadDiffers { at, .. } => AuditFault::TellDiffers { at: *at },
         }
     }
 }
