@@ -29,6 +29,7 @@ The counts, which are those of all seeds together if there are several:
   late tells heard       tells that came after a later one of the same node
   recoveries chosen      epochs that recoverers opened; `lost` counts the recoverers that gave up
   rollbacks              storage servers that went back to an earlier version, by so many `versions undone` in all
+  reads answered         those of clients, of a key at a version, which storage servers did not refuse
   batches acknowledged   committed, as their proxies said; `waiting`: nothing was said of them; `taken back`: numbered,
                          and then cut off by a recovery
 docs/NODES.md says what lines go to and fro. A node that answers by another form ends its seed, and is named. On a
@@ -69,6 +70,7 @@ SAID = (
     ("lost", "lost"),
     ("rollbacks", "rollbacks"),
     ("undone", "versions undone"),
+    ("reads", "reads answered"),
     ("acknowledged", "batches acknowledged"),
     ("waiting", "waiting"),
     ("taken", "taken back"),
