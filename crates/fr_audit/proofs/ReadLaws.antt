@@ -182,4 +182,4 @@ entered_is_serializable serializable c js h config run found settled last is_las
     let run_of = subst (IsRun c) (sym found.turns_are) run in
     let history = are_history c found.acts run_of (are_answered c [] (merged js) found.acts tt found.are) settled in
     subst (λ g. IsStrictlySerializable c found.acts (committed c g last) (least_durable c g last)) found.turns_are
-        (serializable c found.acts config history last (subst (λ g. IsLatest c g last) (sym found.turns_are) is_last))
+    (serializable c found.acts config history last (subst (λ g. IsLatest c g last) (sym found.turns_are) is_last))

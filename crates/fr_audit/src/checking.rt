@@ -127,12 +127,7 @@ fn enter(
 }
 
 /// Makes the event that an entry is, which is no read.
-fn happened(
-    alloc: Global,
-    world: World,
-    number: usize,
-    entry: &NodeEntry,
-) -> Result<World, Finding>
+fn happened(alloc: Global, world: World, number: usize, entry: &NodeEntry) -> Result<World, Finding>
     ensures config { IfOk result (λ after. after.config ≡ world.config) }
     ensures turns { IfOk result (λ after. rule.after_act world.config world.turns number (placed_of entry.now) None ≡ Ok after.turns) }
     ensures finding { IfErr result (λ finding. finding ≢ Finding.Memory

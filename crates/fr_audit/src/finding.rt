@@ -29,14 +29,23 @@ pub enum Cause {
 pub enum Finding {
     /// This entry is no event that can happen there, for this cause.
     #[error("not a run at {at}: {cause}")]
-    NotARun { at: usize, cause: Cause },
+    NotARun {
+        at: usize,
+        cause: Cause,
+    },
     /// What this entry was told, or the outcome that it has, is not what the world gives: this answer.
     #[error("tell differs at {at}")]
-    TellDiffers { at: usize, answer: Answer },
+    TellDiffers {
+        at: usize,
+        answer: Answer,
+    },
     /// The journal of this node was not closed, or not with the last state of the node: this one. None: there is no
     /// such node.
     #[error("a last state differs")]
-    StateDiffers { node: NodeId, last: Option<Last> },
+    StateDiffers {
+        node: NodeId,
+        last: Option<Last>,
+    },
     /// There is no memory.
     #[error("out of memory")]
     Memory,
