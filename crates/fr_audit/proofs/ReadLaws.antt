@@ -29,7 +29,7 @@ use Rattle.fr_audit_journal.specs.Merge.{Placed, merged}
 use Rattle.fr_audit.specs.Audited.{audited}
 use Rattle.fr_audit.specs.Law.{IsReached}
 use Rattle.fr_audit.specs.Reads.{reading_of}
-use Rattle.fr_audit.specs.ReadLaw.{ActsAreThere, AreActs, AreSettled, EnteredIsCommitted, EnteredIsSerializable, EnteredStays, HasActs, IsActOf, IsCommittedValue, IsReadIn}
+use Rattle.fr_audit.specs.ReadLaw.{ActsAreThere, AreActs, AreSettled, EnteredIsCommitted, EnteredIsSerializable, HasActs, IsActOf, IsCommittedValue, IsReadIn}
 use Rattle.fr_audit.specs.Run.{Happen, IsReadOf, IsTurnOf, Makes}
 use Rattle.fr_audit.proofs.Answered.{event_is_no_read}
 use Rattle.fr_audit.proofs.Audits.{ok_is_run}
@@ -135,12 +135,9 @@ module _ (sorted : MergedIsSorted) (c : Config) (js : List JournalState) (h : Li
         let here = ap (λ g. through r.version (committed c g last)) (sym m.1) ∙ kept in
         is_committed ∙ ap (λ xs. get (map_after xs) r.key) (sym here)
 
-pub entered_is_committed : MergedIsSorted → ReadIsCommitted → EnteredIsCommitted
-entered_is_committed sorted there c js h config run ok at reached r is latest is_latest settled = is_committed sorted c js h ok there config run at reached r is latest is_latest settled
-
-pub entered_stays : MergedIsSorted → ReadIsCommitted → CommittedStays → EnteredStays
-entered_stays sorted there same c js h config run ok at reached r is latest is_latest settled last is_last =
-    stays sorted c js h ok there config run at reached r is latest is_latest settled same last is_last
+pub entered_is_committed : MergedIsSorted → ReadIsCommitted → CommittedStays → EnteredIsCommitted
+entered_is_committed sorted there same c js h config run ok at reached r is latest is_latest settled =
+    (is_committed sorted c js h ok there config run at reached r is latest is_latest settled, stays sorted c js h ok there config run at reached r is latest is_latest settled same)
 
 -- ---- what clients saw
 

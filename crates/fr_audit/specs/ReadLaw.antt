@@ -27,20 +27,17 @@ IsCommittedValue c h latest r = r.value ≡ get (map_after (through r.version (c
 abbrev pub IsReadIn : (c : Config) (js : List JournalState) (at : ℕ) → IsReached c (merged js) at → Reading → Type 0
 IsReadIn c js at reached r = reading_of reached.entry.node reached.entry.entry.act ≡ Some r
 
--- without fault each read that the journals have, at a version that was settled at its moment, has the value that was committed there
-abbrev pub EnteredIsCommitted : Type 0
-EnteredIsCommitted =
-    (c : Config) (js : List JournalState) (h : List Turn) → IsConfig c → IsRun c h → audited c js ≡ Ok h
-    → (at : ℕ) (reached : IsReached c (merged js) at) (r : Reading) → IsReadIn c js at reached r
-    → (latest : ℕ) → IsLatest c reached.turns latest → IsSettledAt c reached.turns latest r.tag r.version → IsCommittedValue c reached.turns latest r
-
--- and it is the value that is committed there at the end of the journals
-abbrev pub EnteredStays : Type 0
-EnteredStays =
-    (c : Config) (js : List JournalState) (h : List Turn) → IsConfig c → IsRun c h → audited c js ≡ Ok h
-    → (at : ℕ) (reached : IsReached c (merged js) at) (r : Reading) → IsReadIn c js at reached r
+-- each read that the journals have, at a version that was settled at its moment, has the value that was committed there; and it is the one that is committed there at
+-- the end of the turns
+abbrev pub ReadsAreCommitted : Config → List JournalState → List Turn → Type 0
+ReadsAreCommitted c js h =
+    (at : ℕ) (reached : IsReached c (merged js) at) (r : Reading) → IsReadIn c js at reached r
     → (latest : ℕ) → IsLatest c reached.turns latest → IsSettledAt c reached.turns latest r.tag r.version
-    → (last : ℕ) → IsLatest c h last → IsCommittedValue c h last r
+    → IsCommittedValue c reached.turns latest r × ((last : ℕ) → IsLatest c h last → IsCommittedValue c h last r)
+
+-- without fault they are
+abbrev pub EnteredIsCommitted : Type 0
+EnteredIsCommitted = (c : Config) (js : List JournalState) (h : List Turn) → IsConfig c → IsRun c h → audited c js ≡ Ok h → ReadsAreCommitted c js h
 
 -- ---- what clients saw
 

@@ -1,6 +1,6 @@
 //! Laws of audits.
 ghost use Rattle.fr_audit.specs.Law.{FaultIsFound, NotARunIsFirst, OkIsRun, ReadDiffersIsFirst, RunIsOk, StateDiffersIsFirst, TellDiffersIsFirst};
-ghost use Rattle.fr_audit.specs.ReadLaw.{ActsAreThere, EnteredIsCommitted, EnteredIsSerializable, EnteredStays};
+ghost use Rattle.fr_audit.specs.ReadLaw.{ActsAreThere, EnteredIsCommitted, EnteredIsSerializable};
 
 use fr_audit_journal::laws::merge_law;
 use fr_run_history::laws::history_law;
@@ -24,10 +24,9 @@ pub fn audit_law()
 /// that was committed there: that of its key in the map that exactly the committed batches through the version make of
 /// the empty one. It is so at the moment of the read and at the end of the journals. If all reads were at settled
 /// versions, the turns and reads of the journals are a history of clients that is strictly serializable. The law speaks
-/// of a config and of turns that are a run, as those of every [`World`](crate::World) are.
+/// of a config and of turns that are a run, as those are that [`audit`](crate::audit) answers.
 pub fn entered_law()
     ensures committed { EnteredIsCommitted }
-    ensures stays { EnteredStays }
     ensures acts { ActsAreThere }
     ensures serializable { EnteredIsSerializable }
 {
