@@ -1,5 +1,5 @@
 -- What the rules answer a read, as a test and as a sentence.
-use Rattle.std.proofs.Common.{◌≡◌, ℕ, Bool, true, false, nat_lt, List, length, Option, None, Some, Ok, Err, refl, sym, ap, ◌∙◌}
+use Rattle.std.proofs.Common.{◌≡◌, ℕ, Bool, true, false, cond, nat_lt, List, length, Option, None, Some, Ok, Err, refl, sym, ap, ◌∙◌}
 use Rattle.std.specs.Prelude.{Result, IfSome}
 use Rattle.fr_base.specs.Same.{bytes_eq-IsSameness}
 use Rattle.fr_base.specs.declared.place.NodeId.{NodeId}

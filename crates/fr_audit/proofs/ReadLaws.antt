@@ -6,7 +6,7 @@ use Rattle.std.specs.FinMap.{get}
 use Rattle.fr_mutation.specs.Shard.{in_shard}
 use Rattle.fr_tags.specs.Shards.{shard_at}
 use Rattle.fr_storage.specs.declared.fault.ReadFault.{ReadFault}
-use Rattle.fr_storage.specs.declared.fault.ReadFault.TheVariants.{NotMine, TooOld, FutureVersion}
+use Rattle.fr_storage.specs.declared.fault.ReadFault.TheVariants.{NotMine}
 use Rattle.fr_storage.specs.Reads.{read_fault}
 use Rattle.fr_run.specs.Config.{Config}
 use Rattle.fr_run.specs.Turn.{Turn}
@@ -82,14 +82,11 @@ run_before c (t ∷ more) h run = run_before c more h run.1
 
 -- the key of a read that is taken is of the shard
 of_shard : (c : Config) (h : List Turn) (r : Reading) → Answers c h r.tag r.version r.key r.value → in_shard (shard_at c.begins r.tag) r.key ≡ true
-of_shard c h r a = go (in_shard (shard_at c.begins r.tag) r.key) refl a.taken
+of_shard c h r a = go (in_shard (shard_at c.begins r.tag) r.key) _ refl a.taken
   where
-    rest : Option ReadFault
-    rest = cond (nat_lt r.version (storage_at c h r.tag).store.floor) (Some TooOld) (cond (nat_lt (storage_at c h r.tag).store.applied r.version) (Some FutureVersion) None)
-
-    go : (b : Bool) → in_shard (shard_at c.begins r.tag) r.key ≡ b → cond (not b) (Some NotMine) rest ≡ None → in_shard (shard_at c.begins r.tag) r.key ≡ true
-    go true is k = is
-    go false is k = absurd (cc)
+    go : (b : Bool) (rest : Option ReadFault) → in_shard (shard_at c.begins r.tag) r.key ≡ b → cond (not b) (Some NotMine) rest ≡ None → in_shard (shard_at c.begins r.tag) r.key ≡ true
+    go true rest is k = is
+    go false rest is k = absurd (cc)
 
 -- an entry that is a read, of some that happen, is answered so
 read_makes : (c : Config) (h : List Turn) (p : Placed) (later : List Turn) (r : Reading) → Makes c h p later → reading_of p.node p.entry.act ≡ Some r → Answers c h r.tag r.version r.key r.value
@@ -144,11 +141,12 @@ entered_is_committed sorted there same c js h config run ok at reached r is late
 -- entries that happen are acts, whose turns are the later ones
 acts_of : (c : Config) (acts : List Act) (ps : List Placed) (later : List Turn) → Happen c (turns acts) ps later → (more : List Act) × (AreActs c acts ps more × (turns more ≡ later))
 acts_of c acts [] later k = (acts, (refl, k))
-acts_of c acts (p ∷ ps) later k = go k.1.0
+acts_of c acts (p ∷ ps) later k = go (λ act happens. acts_of c (act ∷ acts) ps later happens) k.1.0
   where
-    go : Makes c (turns acts) p k.0 → (more : List Act) × (AreActs c acts (p ∷ ps) more × (turns more ≡ later))
-    go (inl l) = let m = acts_of c (Turned l.0 ∷ acts) ps later (subst (λ g. Happen c g ps later) (sym l.1.1) k.1.1) in (m.0, ((Turned l.0, (l.1.0, m.1.0)), m.1.1))
-    go (inr l) = let m = acts_of c (Read l.0 ∷ acts) ps later (subst (λ g. Happen c g ps later) (sym l.1.1) k.1.1) in (m.0, ((Read l.0, (l.1.0, m.1.0)), m.1.1))
+    go : ((act : Act) → Happen c (turns (act ∷ acts)) ps later → (more : List Act) × (AreActs c (act ∷ acts) ps more × (turns more ≡ later)))
+        → Makes c (turns acts) p k.0 → (more : List Act) × (AreActs c acts (p ∷ ps) more × (turns more ≡ later))
+    go rest (inl l) = let m = rest (Turned l.0) (subst (λ g. Happen c g ps later) (sym l.1.1) k.1.1) in (m.0, ((Turned l.0, (l.1.0, m.1.0)), m.1.1))
+    go rest (inr l) = let m = rest (Read l.0) (subst (λ g. Happen c g ps later) (sym l.1.1) k.1.1) in (m.0, ((Read l.0, (l.1.0, m.1.0)), m.1.1))
 
 pub acts_are_there : MergedIsSorted → ActsAreThere
 acts_are_there sorted c js h ok = let m = acts_of c [] (merged js) h (happen sorted c js h ok) in record { acts = m.0; are = m.1.0; turns_are = m.1.1 }
@@ -161,11 +159,11 @@ AreAnswered c (Read r ∷ acts) = Answers c (turns acts) r.tag r.version r.key r
 
 are_answered : (c : Config) (acts : List Act) (ps : List Placed) (later : List Act) → AreAnswered c acts → AreActs c acts ps later → AreAnswered c later
 are_answered c acts [] later all k = subst (AreAnswered c) k all
-are_answered c acts (p ∷ ps) later all k = go k.0 k.1.0 k.1.1
+are_answered c acts (p ∷ ps) later all k = are_answered c (k.0 ∷ acts) ps later (go k.0 k.1.0) k.1.1
   where
-    go : (act : Act) → IsActOf c (turns acts) p act → AreActs c (act ∷ acts) ps later → AreAnswered c later
-    go (Turned t) is rest = are_answered c (Turned t ∷ acts) ps later all rest
-    go (Read r) is rest = are_answered c (Read r ∷ acts) ps later (is.answers, all) rest
+    go : (act : Act) → IsActOf c (turns acts) p act → AreAnswered c (act ∷ acts)
+    go (Turned t) is = all
+    go (Read r) is = (is.answers, all)
 
 -- turns of a run, with reads that are answered so at settled versions, are a history
 are_history : (c : Config) (acts : List Act) → IsRun c (turns acts) → AreAnswered c acts → AreSettled c acts → IsHistory c acts
