@@ -1,12 +1,12 @@
 -- What the rules answer a read, as a test and as a sentence.
-use Rattle.std.proofs.Common.{◌≡◌, ℕ, Bool, true, false, cond, nat_lt, List, length, Option, None, Some, Ok, Err, refl, sym, ap, ◌∙◌}
+use Rattle.std.proofs.Common.{◌≡◌, ℕ, Bool, true, false, cond, nat_lt, List, length, Option, None, Some, Ok, Err, refl, ap, ◌∙◌}
 use Rattle.std.specs.Prelude.{Result, IfSome}
 use Rattle.fr_base.specs.Same.{bytes_eq-IsSameness}
 use Rattle.fr_base.specs.declared.place.NodeId.{NodeId}
 use Rattle.fr_mutation.specs.declared.shard.Shard.{Shard}
 use Rattle.fr_tags.specs.Shards.{shard_at}
 use Rattle.fr_undo.specs.Undo.{value_undone}
-use Rattle.fr_storage.specs.Reads.{read_fault, read_refusal, read_trouble}
+use Rattle.fr_storage.specs.Reads.{read_fault, read_trouble}
 use Rattle.fr_storage.specs.Storage.{StorageState}
 use Rattle.fr_storage.specs.declared.fault.ReadFault.{ReadFault}
 use Rattle.fr_storage.specs.declared.fault.ReadFault.TheVariants.{NotMine, TooOld, FutureVersion, Store}

@@ -14,7 +14,6 @@ use Rattle.fr_audit_journal.proofs.Sorting.{ascends_of}
 use Rattle.fr_audit.specs.Audited.{after_entries, fault_of, first_unlike, found, then_on, with_lasts, without_rules}
 use Rattle.fr_audit.specs.Entry.{says}
 use Rattle.fr_audit.specs.Reads.{answer_at, is_answer}
-use Rattle.fr_storage.specs.declared.fault.ReadFault.{ReadFault}
 use Rattle.fr_audit.specs.Law.{FaultIsFound, IsFirstUnlike, IsFound, IsCause, IsNoRunAt, IsReached, IsReadElse, IsToldElse, NotARunIsFirst, OkIsRun, ReadDiffersIsFirst, RunIsOk, StateDiffersIsFirst, TellDiffersIsFirst, last_of}
 use Rattle.fr_audit.specs.Run.{AreApart, IsRunOf}
 use Rattle.fr_audit.specs.declared.finding.Finding.{Finding}

@@ -1,21 +1,18 @@
 -- Reads in journals without fault: what is committed, and strictly serializable.
 use Rattle.std.proofs.lemmas.List.{append_assoc}
-use Rattle.std.proofs.Common.{◌≡◌, ◌≤◌, ℕ, Bool, true, false, cond, not, nat_lt, List, [], ◌∷◌, ◌++◌, Option, None, Some, Ok, inl, inr, refl, sym, ap, ◌∙◌, subst}
+use Rattle.std.proofs.Common.{◌≡◌, ℕ, Bool, true, false, cond, not, List, [], ◌∷◌, ◌++◌, Option, None, Some, Ok, inl, inr, refl, sym, ap, ◌∙◌, subst}
 use Rattle.std.specs.Prelude.{Result}
 use Rattle.std.specs.FinMap.{get}
 use Rattle.fr_mutation.specs.Shard.{in_shard}
 use Rattle.fr_tags.specs.Shards.{shard_at}
 use Rattle.fr_storage.specs.declared.fault.ReadFault.{ReadFault}
 use Rattle.fr_storage.specs.declared.fault.ReadFault.TheVariants.{NotMine}
-use Rattle.fr_storage.specs.Reads.{read_fault}
 use Rattle.fr_run.specs.Config.{Config}
 use Rattle.fr_run.specs.Turn.{Turn}
-use Rattle.fr_run.specs.Nodes.{storage_at}
 use Rattle.fr_run.specs.Run.{IsRun}
 use Rattle.fr_run.specs.Step.{turn_of}
 use Rattle.fr_run.specs.States.{IsLatest}
 use Rattle.fr_run.specs.StateLaws.{IsConfig}
-use Rattle.fr_run.specs.declared.event.Event.{Event}
 use Rattle.fr_run.specs.declared.not_enabled.NotEnabled.{NotEnabled}
 use Rattle.fr_run_headline.specs.Issued.{least_durable, committed}
 use Rattle.fr_run_headline.specs.IssuedLaws.{through}
@@ -29,8 +26,8 @@ use Rattle.fr_audit_journal.specs.Merge.{Placed, merged}
 use Rattle.fr_audit.specs.Audited.{audited}
 use Rattle.fr_audit.specs.Law.{IsReached}
 use Rattle.fr_audit.specs.Reads.{reading_of}
-use Rattle.fr_audit.specs.ReadLaw.{ActsAreThere, AreActs, AreSettled, EnteredIsCommitted, EnteredIsSerializable, HasActs, IsActOf, IsCommittedValue, IsReadIn}
-use Rattle.fr_audit.specs.Run.{Happen, IsReadOf, IsTurnOf, Makes}
+use Rattle.fr_audit.specs.ReadLaw.{ActsAreThere, AreActs, AreSettled, EnteredIsCommitted, EnteredIsSerializable, IsActOf, IsCommittedValue, IsReadIn}
+use Rattle.fr_audit.specs.Run.{Happen, IsTurnOf, Makes}
 use Rattle.fr_audit.proofs.Answered.{event_is_no_read}
 use Rattle.fr_audit.proofs.Audits.{ok_is_run}
 

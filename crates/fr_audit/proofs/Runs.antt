@@ -1,6 +1,6 @@
 -- Events that happen make a run one turn longer.
-use Rattle.std.proofs.Common.{◌≡◌, List, ◌∷◌, Ok, Err, refl, subst}
-use Rattle.std.specs.Prelude.{Result, ◌×◌}
+use Rattle.std.proofs.Common.{◌≡◌, Ok, Err, refl, subst}
+use Rattle.std.specs.Prelude.{Result}
 use Rattle.fr_run.specs.Law.{EventIsTurn}
 use Rattle.fr_run.specs.Limits.{HasLimits}
 use Rattle.fr_run.specs.Run.{IsRun}
