@@ -201,7 +201,7 @@ cause_of c h before p why apart plain e = by_event (event_of p.node p.entry.act)
     by_answer event is_event (Err reason) happens k = let same : cause.NotEnabled reason ≡ why = cc in subst (IsCause c h before p) same (apart, inl (event, (is_event, happens)))
 
     by_event : (o : Option Event) → event_of p.node p.entry.act ≡ o → turn_if c h o ≡ Err why → IsCause c h before p why
-    by_event None is_event k = let same : cause.NoSuchAct ≡ why = cc in subst (IsCause c h before p) same (apart, (plain, is_event))
+    by_event None is_event k = let same : cause.NoSuchAct ≡ why = cc in subst (IsCause c h before p) same (apart, plain, is_event)
     by_event (Some event) is_event k = by_answer event is_event (turn_of c h event) refl k
 
 pub faulty : (c : Config) (h : List Turn) (before : Option Placed) (at : ℕ) (p : Placed) (finding : Finding) → after_entry c h before at p ≡ Err finding → Faulty c h before at p finding

@@ -1,5 +1,5 @@
 -- Events that happen make a run one turn longer.
-use Rattle.std.proofs.Common.{◌≡◌, Ok, Err, refl, subst}
+use Rattle.std.proofs.Common.{◌≡◌, Ok, Err, refl, ap, subst}
 use Rattle.std.specs.Prelude.{Result}
 use Rattle.fr_run.specs.Law.{EventIsTurn}
 use Rattle.fr_run.specs.Limits.{HasLimits}
@@ -15,9 +15,14 @@ use Rattle.fr_world_nodes.specs.Kept.{WorldState, with_turn}
 abbrev stepped_so : WorldState → Answer → Result (WorldState × Answer) NotEnabled
 stepped_so next a = Ok (next, a)
 
+-- the world of an answer, if it is one
+abbrev world_of : Result (WorldState × Answer) NotEnabled → WorldState → WorldState
+world_of (Ok next) w = next.0
+world_of (Err why) w = w
+
 pub run_after : EventIsTurn → (w next : WorldState) (event : Event) (a : Answer) → HasLimits event → stepped w event ≡ Ok (next, a) → IsRun w.config w.turns → IsRun next.config next.turns
 run_after law w next event a limits e run = go (turn_of w.config w.turns event) refl e
   where
     go : (r : Result Turn NotEnabled) → turn_of w.config w.turns event ≡ r → stepped_by w r ≡ stepped_so next a → IsRun next.config next.turns
-    go (Ok t) is k = let same : with_turn w t ≡ next = cc in subst (λ (x : WorldState). IsRun x.config x.turns) same (law w.config w.turns event t limits is, run)
+    go (Ok t) is k = let same : with_turn w t ≡ next = ap (λ o. world_of o w) k in subst (λ (x : WorldState). IsRun x.config x.turns) same (law w.config w.turns event t limits is, run)
     go (Err why) is k = absurd (cc)
