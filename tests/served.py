@@ -224,6 +224,8 @@ class Cluster:
             made = subprocess.run([SERVICE, "journals", *rooms], stdout=it, stderr=subprocess.PIPE, text=True)
         with open(f"{self.room}/journals.json", encoding="utf-8") as it:
             ran = subprocess.run([f"{built.TOP}/bench/judge"], stdin=it, capture_output=True, text=True)
+        with open(f"{self.room}/journals.json", encoding="utf-8") as it:
+            self.reads = it.read().count('{"read":{"key":')
         entries = re.match(r"(\d+) entries", made.stderr)
         return ran.stdout.strip(), ran.stderr.strip() or made.stderr, int(entries[1]) if entries else 0
 

@@ -6,7 +6,7 @@ from making.sources import read
 
 LONG = 40
 # how many words a page may have that is made of the sources: whoever believes the theorem has to read all of them
-GENERATED = {"docs/BELIEVE.md": 16000}
+GENERATED = {"docs/BELIEVE.md": 16500}
 # what a plainer word says; each row is a form, as a regular expression, and that word
 LISTED = (
     (r"\bwant(?:s|ed|ing)? (?:of|for) memory\b|\bmemory (?:is|was|be) wanting\b", "out of memory"),

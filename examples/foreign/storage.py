@@ -117,6 +117,12 @@ class Storage:
 
     # ---- reads
 
+    def refusal(self, version):
+        """Why a read at a version is refused, or None."""
+        if self.floor <= version <= self.version:
+            return None
+        return "TooOld" if version < self.floor else "FutureVersion"
+
     def value_at(self, key, version):
         """The value that a key had at a version: what the first change above the version found, or what it has."""
         found = [before[key] for at, before in self.undo if at > version and key in before]

@@ -18,6 +18,7 @@ class Bug(NamedTuple):
     line: str
     entry: str  # what stands in the entry of the line, or nothing where the line names a node
     why: str
+    reads: bool = False  # whether it shows in reads of clients alone
 
 
 # ---- cells
@@ -208,6 +209,23 @@ class PopsAboveItsFloor(Storage):
         return self.version
 
 
+class ReadsAnUndoneValue(Storage):
+    """It answers reads from a cache of each key's last change, which it does not drop when it rolls back."""
+
+    def keep(self, version, before):
+        self.cache = getattr(self, "cache", {}) | {key: (version, self.rows.get(key)) for key in before}
+        return super().keep(version, before)
+
+    def value_at(self, key, version):
+        at, value = getattr(self, "cache", {}).get(key, (version + 1, None))
+        return value if at <= version else super().value_at(key, version)
+
+
+class ReadsBelowItsFloor(Storage):
+    def refusal(self, version):
+        return None if version <= self.version else "FutureVersion"
+
+
 BUGS = {
     "forgets-a-promise": Bug(
         {"cell": ForgetsAPromise},
@@ -390,5 +408,21 @@ BUGS = {
         "not a run at 52",
         '"pop"',
         "A storage server pops through its floor at most: it may have to roll back above it.",
+    ),
+    "reads-an-undone-value": Bug(
+        {"storage": ReadsAnUndoneValue},
+        4,
+        "tell differs at 1380",
+        '"read"',
+        "The recovery took this value back; no row is wrong, so reads alone show it.",
+        reads=True,
+    ),
+    "reads-below-its-floor": Bug(
+        {"storage": ReadsBelowItsFloor},
+        1,
+        "tell differs at 1419",
+        '"read"',
+        "The undo rows at and below the floor are gone, so such a read is refused: `TooOld`.",
+        reads=True,
     ),
 }

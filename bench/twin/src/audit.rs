@@ -36,6 +36,7 @@ object! {
 }
 object! { BegunForm {} maybe { logs: u8 as Count, degree: u8 as Count } }
 object! { Submitted { batch: Arc<Batch> as Arc<Batch>, step: u64 as Step } }
+object! { ReadForm { key: Bytes as Bytes, value: Option<Bytes> as Option<Bytes>, version: u64 as Version } }
 
 /// What a node did, one turn of it. It is taken out when its turn comes.
 pub enum Act {
@@ -45,6 +46,7 @@ pub enum Act {
     Begun(Option<Shape>),
     Crashed,
     Lost,
+    Read(ReadForm),
     Taken,
 }
 
@@ -56,6 +58,7 @@ variants! {
         "begun": BegunForm => |it| Some(Act::Begun(Shape::of_members(it.logs, it.degree)?)),
         "crashed": Empty => |_| Some(Act::Crashed),
         "lost": Empty => |_| Some(Act::Lost),
+        "read": ReadForm => |it| Some(Act::Read(it)),
     }
 }
 
@@ -249,7 +252,19 @@ impl Audit {
             }
             (Act::Crashed, _) => Ok(self.world.crash(node)?),
             (Act::Lost, NodeId::Log(log)) => Ok(self.world.lose(log)?),
+            (Act::Read(read), NodeId::Storage(tag)) => self.read(tag, read),
             _ => Err(Refused::NotEnabled),
+        }
+    }
+
+    /// Whether the storage server of a tag answers a read so; nothing happens.
+    fn read(&self, tag: u8, read: ReadForm) -> Result<(), Refused> {
+        if self.world.storage(tag).is_none() {
+            return Err(Refused::NotEnabled);
+        }
+        match self.world.read(tag, &read.key.0, read.version) {
+            Ok(value) if value == read.value.as_ref().map(|value| value.0.as_slice()) => Ok(()),
+            _ => Err(Refused::Differs),
         }
     }
 

@@ -107,6 +107,10 @@ fn act_of(act: &Act) -> Value {
         Act::Begun(None) => json!({"begun": {}}),
         Act::Crashed => json!({"crashed": {}}),
         Act::Lost => json!({"lost": {}}),
+        Act::Read(it) => {
+            let value = it.value.as_ref().map(|value| hex::encode(&value.0));
+            json!({"read": {"key": hex::encode(&it.key.0), "value": value, "version": it.version}})
+        }
         Act::Taken => unreachable!("an audit alone takes acts out"),
     }
 }

@@ -13,10 +13,11 @@ use Rattle.fr_audit_journal.proofs.Places.{places_rank}
 use Rattle.fr_audit_journal.proofs.Sorting.{ascends_of}
 use Rattle.fr_audit.specs.Audited.{after_entries, fault_of, first_unlike, found, then_on, with_lasts, without_rules}
 use Rattle.fr_audit.specs.Entry.{says}
-use Rattle.fr_audit.specs.Law.{FaultIsFound, IsFirstUnlike, IsFound, IsCause, IsNoRunAt, IsReached, IsToldElse, NotARunIsFirst, OkIsRun, RunIsOk, StateDiffersIsFirst, TellDiffersIsFirst, last_of}
+use Rattle.fr_audit.specs.Reads.{answer_at, is_answer}
+use Rattle.fr_audit.specs.Law.{FaultIsFound, IsFirstUnlike, IsFound, IsCause, IsNoRunAt, IsReached, IsReadElse, IsToldElse, NotARunIsFirst, OkIsRun, ReadDiffersIsFirst, RunIsOk, StateDiffersIsFirst, TellDiffersIsFirst, last_of}
 use Rattle.fr_audit.specs.Run.{AreApart, IsRunOf}
 use Rattle.fr_audit.specs.declared.finding.Finding.{Finding}
-use Rattle.fr_audit.specs.declared.finding.Finding.TheVariants.{NotARun, TellDiffers, StateDiffers}
+use Rattle.fr_audit.specs.declared.finding.Finding.TheVariants.{NotARun, TellDiffers, StateDiffers, ReadDiffers}
 use Rattle.fr_audit.proofs.Entries.{AreEntered, Faulty, IsFirstFault, all_entered, enter_all, faulty, first_fault}
 use Rattle.fr_audit.proofs.Lasts.{all_closed, is_first, none_unlike}
 use Rattle.fr_audit.proofs.Places.{are_apart, are_unrepeated}
@@ -103,7 +104,8 @@ not_a_run_is_first c js at why e = go (finding_of c js (NotARun at why) e)
         let same : at ≡ 0 + length first.front = cc in
         let cause : k.0 ≡ why = cc in
         record { reached = reached c js (NotARun at why) first at same; cause_is = subst (IsCause c first.turns (last_of None first.front) first.entry) cause k.1.1 }
-    by_fault first (inr k) = let l = k.1.0 in absurd (cc)
+    by_fault first (inr (inl k)) = let l = k.1.0 in absurd (cc)
+    by_fault first (inr (inr k)) = let l = k.finding_is in absurd (cc)
 
     go : IsFoundOf c js (NotARun at why) → IsNoRunAt c js at why
     go (inl k) = let first = first_fault c [] None 0 (merged js) (NotARun at why) k in by_fault first (faulty c first.turns _ _ first.entry (NotARun at why) first.finding_is)
@@ -114,7 +116,8 @@ tell_differs_is_first c js at answer e = go (finding_of c js (TellDiffers at ans
   where
     by_fault : (first : IsFirstFault c [] None 0 (merged js) (TellDiffers at answer)) → Faulty c first.turns (last_of None first.front) (0 + length first.front) first.entry (TellDiffers at answer) → IsToldElse c js at answer
     by_fault first (inl k) = let l = k.1.0 in absurd (cc)
-    by_fault first (inr k) =
+    by_fault first (inr (inr k)) = let l = k.finding_is in absurd (cc)
+    by_fault first (inr (inl k)) =
         let is = k.1.0 in
         let same : at ≡ 0 + length first.front = cc in
         let told : answer ≡ answer_of k.0 = cc in
@@ -131,12 +134,37 @@ tell_differs_is_first c js at answer e = go (finding_of c js (TellDiffers at ans
     go (inl k) = let first = first_fault c [] None 0 (merged js) (TellDiffers at answer) k in by_fault first (faulty c first.turns _ _ first.entry (TellDiffers at answer) first.finding_is)
     go (inr k) = let l = k.1.1.1.1 in absurd (cc)
 
+pub read_differs_is_first : ReadDiffersIsFirst
+read_differs_is_first c js at answer e = go (finding_of c js (ReadDiffers at answer) e)
+  where
+    by_fault : (first : IsFirstFault c [] None 0 (merged js) (ReadDiffers at answer)) → Faulty c first.turns (last_of None first.front) (0 + length first.front) first.entry (ReadDiffers at answer) → IsReadElse c js at answer
+    by_fault first (inl k) = let l = k.1.0 in absurd (cc)
+    by_fault first (inr (inl k)) = let l = k.1.0 in absurd (cc)
+    by_fault first (inr (inr k)) =
+        let is = k.finding_is in
+        let same : at ≡ 0 + length first.front = cc in
+        let answered : answer ≡ answer_at c first.turns k.reading = cc in
+        record {
+          reached = reached c js (ReadDiffers at answer) first at same;
+          unrepeated = k.unrepeated;
+          reading = k.reading;
+          is_read = k.is_read;
+          there = k.there;
+          answer_is = answered;
+          differs = ap (λ a. is_answer a k.reading.value) answered ∙ k.differs;
+        }
+
+    go : IsFoundOf c js (ReadDiffers at answer) → IsReadElse c js at answer
+    go (inl k) = let first = first_fault c [] None 0 (merged js) (ReadDiffers at answer) k in by_fault first (faulty c first.turns _ _ first.entry (ReadDiffers at answer) first.finding_is)
+    go (inr k) = let l = k.1.1.1.1 in absurd (cc)
+
 pub state_differs_is_first : MergedIsSorted → StateDiffersIsFirst
 state_differs_is_first sorted c js who last e = go (finding_of c js (StateDiffers who last) e)
   where
     by_entry : (first : IsFirstFault c [] None 0 (merged js) (StateDiffers who last)) → Faulty c first.turns (last_of None first.front) (0 + length first.front) first.entry (StateDiffers who last) → IsFirstUnlike c js who last
     by_entry first (inl k) = let l = k.1.0 in absurd (cc)
-    by_entry first (inr k) = let l = k.1.0 in absurd (cc)
+    by_entry first (inr (inl k)) = let l = k.1.0 in absurd (cc)
+    by_entry first (inr (inr k)) = let l = k.finding_is in absurd (cc)
 
     go : IsFoundOf c js (StateDiffers who last) → IsFirstUnlike c js who last
     go (inl k) = let first = first_fault c [] None 0 (merged js) (StateDiffers who last) k in by_entry first (faulty c first.turns _ _ first.entry (StateDiffers who last) first.finding_is)

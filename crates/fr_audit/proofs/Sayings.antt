@@ -8,7 +8,7 @@ use Rattle.fr_proxy.specs.declared.outcome.Outcome.TheVariants as outcome
 use Rattle.fr_run.specs.declared.answer.Answer.{Answer}
 use Rattle.fr_run.specs.declared.answer.Answer.TheVariants as answer
 use Rattle.fr_audit_journal.specs.declared.act.Act.{Act}
-use Rattle.fr_audit_journal.specs.declared.act.Act.TheVariants.{Asked, Heard, Submitted, Begun, Crashed, Lost}
+use Rattle.fr_audit_journal.specs.declared.act.Act.TheVariants.{Asked, Heard, Submitted, Begun, Crashed, Lost, Read}
 use Rattle.fr_audit.specs.Entry.{is_same_outcome, is_same_saying, is_told, outcome_in, says}
 use Rattle.fr_audit.specs.Run.{Says}
 
@@ -45,6 +45,7 @@ says_so (Submitted step batch) a e = tt
 says_so (Begun shape) a e = tt
 says_so Crashed a e = tt
 says_so Lost a e = tt
+says_so (Read key version value) a e = absurd (cc)
 
 pub so_says : (act : Act) (a : Answer) → Says act a → says act a ≡ true
 so_says (Asked from ask tell) a e = ap (λ x. is_told x tell) e ∙ is_same_tell-IsSameness.itself tell
@@ -53,3 +54,4 @@ so_says (Submitted step batch) a e = refl
 so_says (Begun shape) a e = refl
 so_says Crashed a e = refl
 so_says Lost a e = refl
+so_says (Read key version value) a e = absurd e

@@ -1,5 +1,5 @@
 -- What an audit of journals answers: the turns of their run, or the first fault, and what the rules say there.
-use Rattle.std.specs.Prelude.{ℕ, ◌+◌, Bool, false, List, [], ◌∷◌, Option, None, Some, Result, Ok, Err, if◌then◌else◌}
+use Rattle.std.specs.Prelude.{ℕ, ◌+◌, nat_lt, length, Bool, false, List, [], ◌∷◌, Option, None, Some, Result, Ok, Err, if◌then◌else◌}
 use Rattle.std.specs.Ordering.{is_eq, is_lt}
 use Rattle.fr_base.specs.Node.{node_cmp}
 use Rattle.fr_base.specs.declared.place.NodeId.{NodeId}
@@ -10,16 +10,20 @@ use Rattle.fr_run.specs.Turn.{Turn}
 use Rattle.fr_run.specs.Step.{answer_of, turn_of}
 use Rattle.fr_run.specs.declared.event.Event.{Event}
 use Rattle.fr_run.specs.declared.not_enabled.NotEnabled.{NotEnabled}
+use Rattle.fr_run.specs.declared.not_enabled.NotEnabled.TheVariants.{NoSuchNode}
 use Rattle.fr_run.specs.At.{last_at}
+use Rattle.fr_run_history.specs.History.{Reading}
+use Rattle.fr_storage.specs.declared.fault.ReadFault.{ReadFault}
 use Rattle.fr_audit_journal.specs.Journal.{JournalState}
 use Rattle.fr_audit_journal.specs.Merge.{Placed, merged, place_cmp}
 use Rattle.fr_audit.specs.Entry.{event_of, says}
+use Rattle.fr_audit.specs.Reads.{answer_at, is_answer, reading_of}
 use Rattle.fr_audit.specs.declared.fault.AuditFault.{AuditFault}
 use Rattle.fr_audit.specs.declared.fault.AuditFault.TheVariants as fault
 use Rattle.fr_audit.specs.declared.finding.Cause.{Cause}
 use Rattle.fr_audit.specs.declared.finding.Cause.TheVariants as cause
 use Rattle.fr_audit.specs.declared.finding.Finding.{Finding}
-use Rattle.fr_audit.specs.declared.finding.Finding.TheVariants.{NotARun, TellDiffers, StateDiffers, Memory}
+use Rattle.fr_audit.specs.declared.finding.Finding.TheVariants.{NotARun, TellDiffers, StateDiffers, Memory, ReadDiffers}
 
 -- ---- one entry
 
@@ -48,9 +52,23 @@ abbrev pub with_turn : List Turn → ℕ → Placed → Result Turn Cause → Re
 with_turn h at p (Err why) = Err (NotARun at why)
 with_turn h at p (Ok t) = if says p.entry.act (answer_of t) then Ok (t ∷ h) else Err (TellDiffers at (answer_of t))
 
+-- ---- one read
+
+abbrev pub with_read : List Turn → ℕ → Option (List ℕ) → Result (Option (List ℕ)) ReadFault → Result (List Turn) Finding
+with_read h at value answer = if is_answer answer value then Ok h else Err (ReadDiffers at answer)
+
+-- the turns after a read, which leaves them, if its storage server is there and answers it so
+abbrev pub after_read : Config → List Turn → ℕ → Reading → Result (List Turn) Finding
+after_read c h at r = if nat_lt r.tag (length c.begins) then with_read h at r.value (answer_at c h r) else Err (NotARun at (cause.NotEnabled NoSuchNode))
+
+-- the turns after an entry that is this read, or is none
+abbrev pub after_act : Config → List Turn → ℕ → Placed → Option Reading → Result (List Turn) Finding
+after_act c h at p None = with_turn h at p (turn_at c h p)
+after_act c h at p (Some r) = after_read c h at r
+
 -- the turns after an entry, which has this number and follows that entry; or what is found there
 abbrev pub after_entry : Config → List Turn → Option Placed → ℕ → Placed → Result (List Turn) Finding
-after_entry c h before at p = if is_repeated before p then Err (NotARun at cause.Repeated) else with_turn h at p (turn_at c h p)
+after_entry c h before at p = if is_repeated before p then Err (NotARun at cause.Repeated) else after_act c h at p (reading_of p.node p.entry.act)
 
 -- ---- all entries
 
@@ -97,6 +115,7 @@ fault_of (NotARun at why) = fault.NotARun at
 fault_of (TellDiffers at answer) = fault.TellDiffers at
 fault_of (StateDiffers who last) = fault.StateDiffers who
 fault_of Memory = fault.Memory
+fault_of (ReadDiffers at answer) = fault.TellDiffers at
 
 abbrev pub without_rules : Result (List Turn) Finding → Result (List Turn) AuditFault
 without_rules (Ok h) = Ok h

@@ -12,7 +12,7 @@ use Rattle.fr_run.specs.declared.answer.Answer.TheVariants as answer
 use Rattle.fr_run.specs.declared.event.Event.{Event}
 use Rattle.fr_run.specs.declared.event.Event.TheVariants.{Begin, Deliver, Hear, Submit, Crash, Lose}
 use Rattle.fr_audit_journal.specs.declared.act.Act.{Act}
-use Rattle.fr_audit_journal.specs.declared.act.Act.TheVariants.{Asked, Heard, Submitted, Begun, Crashed, Lost}
+use Rattle.fr_audit_journal.specs.declared.act.Act.TheVariants.{Asked, Heard, Submitted, Begun, Crashed, Lost, Read}
 
 -- a batch is taken by proxies alone
 abbrev pub submit_by : NodeId → Act → Option Event
@@ -29,7 +29,7 @@ abbrev pub lose_of : NodeId → Option Event
 lose_of (node.Log e i) = Some (Lose (record { epoch = e; index = i }))
 lose_of who = None
 
--- the event that an act of a node is; none if the node does not do such a thing
+-- the event that an act of a node is; none if the node does not do such a thing, and none of a read, at which nothing happens
 abbrev pub event_of : NodeId → Act → Option Event
 event_of who (Asked from ask tell) = Some (Deliver from who ask)
 event_of who (Heard from tell taken outcome) = Some (Hear who from tell taken)
@@ -37,6 +37,7 @@ event_of who (Submitted step batch) = submit_by who (Submitted step batch)
 event_of who (Begun shape) = begin_by who shape
 event_of who Crashed = Some (Crash who)
 event_of who Lost = lose_of who
+event_of who (Read key version value) = None
 
 -- ---- what an act says of the answer
 
@@ -67,7 +68,7 @@ is_same_saying a b = false
 abbrev pub has_outcome : Answer → Option Outcome → Bool
 has_outcome a o = is_same_saying (outcome_in a) o
 
--- whether an act says what the world answers: what was told, and the outcome of what was heard
+-- whether an act says what the world answers: what was told, and the outcome of what was heard; a read is no event, so it says nothing of any
 abbrev pub says : Act → Answer → Bool
 says (Asked from ask tell) a = is_told a tell
 says (Heard from tell taken o) a = has_outcome a o
@@ -75,3 +76,4 @@ says (Submitted step batch) a = true
 says (Begun shape) a = true
 says Crashed a = true
 says Lost a = true
+says (Read key version value) a = false

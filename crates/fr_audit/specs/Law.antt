@@ -1,5 +1,5 @@
 -- That an audit is without fault exactly for runs, that a fault is the first one, and what the rules say there.
-use Rattle.std.specs.Prelude.{◌≡◌, ◌⊎◌, ℕ, true, false, List, [], ◌∷◌, ◌++◌, length, Option, None, Some, Ok, Err}
+use Rattle.std.specs.Prelude.{◌≡◌, ◌<◌, ◌≤◌, ◌⊎◌, ℕ, true, false, List, [], ◌∷◌, ◌++◌, length, Option, None, Some, Result, Ok, Err}
 use Rattle.std.specs.Ordering.{is_lt}
 use Rattle.fr_base.specs.Node.{node_cmp}
 use Rattle.fr_base.specs.declared.place.NodeId.{NodeId}
@@ -14,12 +14,17 @@ use Rattle.fr_audit_journal.specs.Journal.{JournalState}
 use Rattle.fr_audit_journal.specs.Merge.{Placed, merged}
 use Rattle.fr_audit.specs.Audited.{audited, fault_of, found, is_closed, is_repeated, turn_at}
 use Rattle.fr_audit.specs.Entry.{event_of, says}
+use Rattle.fr_audit.specs.Reads.{answer_at, is_answer, reading_of}
+use Rattle.fr_run_history.specs.History.{Reading}
+use Rattle.fr_storage.specs.declared.fault.ReadFault.{ReadFault}
+use Rattle.fr_run.specs.declared.not_enabled.NotEnabled as enabled
+use Rattle.fr_run.specs.declared.not_enabled.NotEnabled.TheVariants.{NoSuchNode}
 use Rattle.fr_audit.specs.Run.{AreApart, Happen, IsRunOf}
 use Rattle.fr_audit.specs.declared.fault.AuditFault.{AuditFault}
 use Rattle.fr_audit.specs.declared.finding.Cause.{Cause}
 use Rattle.fr_audit.specs.declared.finding.Cause.TheVariants.{Repeated, NoSuchAct, NotEnabled}
 use Rattle.fr_audit.specs.declared.finding.Finding.{Finding}
-use Rattle.fr_audit.specs.declared.finding.Finding.TheVariants.{NotARun, TellDiffers, StateDiffers}
+use Rattle.fr_audit.specs.declared.finding.Finding.TheVariants.{NotARun, TellDiffers, StateDiffers, ReadDiffers}
 
 -- without fault: the journals are a run, and these are its turns
 abbrev pub OkIsRun : Type 0
@@ -60,11 +65,19 @@ pub record IsReached (c : Config) (entries : List Placed) (at : ℕ) : Type 0 wh
   pub turns : List Turn
   pub happen : Happen c [] before turns
 
+-- a read cannot happen, since its storage server is not there
+pub record IsUnanswered (c : Config) (p : Placed) (why : enabled.NotEnabled) : Type 0 where
+  pub reading : Reading
+  pub is_read : reading_of p.node p.entry.act ≡ Some reading
+  pub unmapped : length c.begins ≤ reading.tag
+  pub why_is : why ≡ NoSuchNode
+
 -- why an entry cannot happen: it has the place of the one before; or it has another, and its node does no such thing, or the world refuses it so
 abbrev pub IsCause : Config → List Turn → Option Placed → Placed → Cause → Type 0
 IsCause c h before p Repeated = is_repeated before p ≡ true
-IsCause c h before p NoSuchAct = (is_repeated before p ≡ false) × (event_of p.node p.entry.act ≡ None)
-IsCause c h before p (NotEnabled why) = (is_repeated before p ≡ false) × ((event : Event) × ((event_of p.node p.entry.act ≡ Some event) × (turn_of c h event ≡ Err why)))
+IsCause c h before p NoSuchAct = (is_repeated before p ≡ false) × (reading_of p.node p.entry.act ≡ None) × (event_of p.node p.entry.act ≡ None)
+IsCause c h before p (NotEnabled why) =
+    (is_repeated before p ≡ false) × (((event : Event) × ((event_of p.node p.entry.act ≡ Some event) × (turn_of c h event ≡ Err why))) ⊎ IsUnanswered c p why)
 
 -- the first entry with a fault cannot happen, for this cause
 pub record IsNoRunAt (c : Config) (js : List JournalState) (at : ℕ) (cause : Cause) : Type 0 where
@@ -85,6 +98,19 @@ pub record IsToldElse (c : Config) (js : List JournalState) (at : ℕ) (answer :
 
 abbrev pub TellDiffersIsFirst : Type 0
 TellDiffersIsFirst = (c : Config) (js : List JournalState) (at : ℕ) (answer : Answer) → found c js ≡ Err (TellDiffers at answer) → IsToldElse c js at answer
+
+-- the first entry with a fault is a read, and does not say what its storage server answers, which is this
+pub record IsReadElse (c : Config) (js : List JournalState) (at : ℕ) (answer : Result (Option (List ℕ)) ReadFault) : Type 0 where
+  pub reached : IsReached c (merged js) at
+  pub unrepeated : is_repeated (last_of None reached.before) reached.entry ≡ false
+  pub reading : Reading
+  pub is_read : reading_of reached.entry.node reached.entry.entry.act ≡ Some reading
+  pub there : reading.tag < length c.begins
+  pub answer_is : answer ≡ answer_at c reached.turns reading
+  pub differs : is_answer answer reading.value ≡ false
+
+abbrev pub ReadDiffersIsFirst : Type 0
+ReadDiffersIsFirst = (c : Config) (js : List JournalState) (at : ℕ) (answer : Result (Option (List ℕ)) ReadFault) → found c js ≡ Err (ReadDiffers at answer) → IsReadElse c js at answer
 
 -- a journal of a node is among these, and was not closed with that node's last state
 abbrev pub IsUnlikeIn : Config → List Turn → NodeId → List JournalState → Type 0

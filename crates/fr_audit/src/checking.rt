@@ -1,16 +1,23 @@
 //! Whether journals are a run.
 ghost use Rattle.std.specs.Prelude.{◌≡◌, ◌≢◌, ◌<◌, None, length, map, Err, IfErr, IfOk, Ok, OnOk};
 ghost use Rattle.fr_audit.specs.Audited as rule;
-ghost use Rattle.fr_audit.specs.Checking.{after_this, before_at};
+ghost use Rattle.fr_audit.specs.Reads as reads;
+ghost use Rattle.fr_audit.specs.Checking.{after_this, before_at, read_at};
 ghost use Rattle.fr_audit_journal.specs.Placed.{placed_of};
+ghost use Rattle.fr_audit.specs.ReadLaw.{ReadsAreCommitted};
 ghost use Rattle.fr_run.specs.At.{last_at};
+ghost use Rattle.fr_run.specs.Run.{IsRun};
+ghost use Rattle.fr_run.specs.StateLaws.{IsConfig};
 
 use crate::entry::{event_of, says};
 use crate::fault::AuditFault;
 use crate::finding::{Cause, Finding};
-use fr_audit_journal::{Journal, NodeEntry, merge};
-use fr_base::{Memory, NodeId};
+use crate::laws::entered_law;
+use fr_audit_journal::{Act, Journal, NodeEntry, merge};
+use fr_base::{Bytes, Memory, NodeId, Tag, Version};
 use fr_run::NotEnabled;
+use fr_run::event_laws::step_law;
+use fr_storage::ReadFault;
 use fr_world::{Config, World};
 use std::alloc::Global;
 use std::cmp::Ordering;
@@ -23,8 +30,12 @@ use std::cmp::Ordering;
 pub fn audit(alloc: Global, config: Config, journals: &[Journal]) -> Result<World, AuditFault>
     ensures config { IfOk result (λ world. world.config ≡ config) }
     ensures turns { IfOk result (λ world. rule.audited config journals.now ≡ Ok world.turns) }
+    ensures run { IfOk result (λ world. IsConfig config × IsRun config world.turns) }
+    ensures reads { IfOk result (λ world. ReadsAreCommitted config journals.now world.turns) }
     ensures fault { IfErr result (λ fault. fault ≢ AuditFault.Memory → rule.audited config journals.now ≡ Err fault) }
 {
+    // What follows of reads is said of the answer here, since a run is all that it needs.
+    entered_law();
     match examine(alloc, config, journals) {
         Ok(world) => Ok(world),
         Err(finding) => Err(finding.fault()),
@@ -36,8 +47,10 @@ pub fn audit(alloc: Global, config: Config, journals: &[Journal]) -> Result<Worl
 pub fn examine(alloc: Global, config: Config, journals: &[Journal]) -> Result<World, Finding>
     ensures config { IfOk result (λ world. world.config ≡ config) }
     ensures turns { IfOk result (λ world. rule.found config journals.now ≡ Ok world.turns) }
+    ensures run { IfOk result (λ world. IsConfig config × IsRun config world.turns) }
     ensures finding { IfErr result (λ finding. finding ≢ Finding.Memory → rule.found config journals.now ≡ Err finding) }
 {
+    let _within = config.coordinators();
     let Ok(entries) = merge(alloc, journals) else {
         return Err(Finding::Memory);
     };
@@ -54,7 +67,9 @@ pub fn examine(alloc: Global, config: Config, journals: &[Journal]) -> Result<Wo
 
 /// Makes the events that entries are, one after another.
 fn enter_all(alloc: Global, world: World, entries: &[NodeEntry]) -> Result<World, Finding>
+    requires run { IsRun world.config world.turns }
     ensures config { IfOk result (λ after. after.config ≡ world.config) }
+    ensures run { IfOk result (λ after. IsRun after.config after.turns) }
     ensures turns { IfOk result (λ after. rule.after_entries world.config world.turns None 0 (map placed_of entries.now) ≡ Ok after.turns) }
     ensures finding { IfErr result (λ finding. finding ≢ Finding.Memory
         → rule.after_entries world.config world.turns None 0 (map placed_of entries.now) ≡ Err finding) }
@@ -94,7 +109,8 @@ fn is_same_place(one: &NodeEntry, other: &NodeEntry) -> bool
     order == Ordering::Equal
 }
 
-/// Makes the event that an entry is, or says what is found there; the world is given up then.
+/// Makes the event that an entry is, or looks up the read that it is, or says what is found there; the world is given up
+/// then.
 fn enter(
     alloc: Global,
     world: World,
@@ -102,7 +118,9 @@ fn enter(
     number: usize,
     entry: &NodeEntry,
 ) -> Result<World, Finding>
+    requires run { IsRun world.config world.turns }
     ensures config { IfOk result (λ after. after.config ≡ world.config) }
+    ensures run { IfOk result (λ after. IsRun after.config after.turns) }
     ensures turns { IfOk result (λ after. after_this world.config world.turns repeated number (placed_of entry.now) ≡ Ok after.turns) }
     ensures finding { IfErr result (λ finding. finding ≢ Finding.Memory
         → after_this world.config world.turns repeated number (placed_of entry.now) ≡ Err finding) }
@@ -110,11 +128,35 @@ fn enter(
     if repeated {
         return Err(no_run(number, Cause::Repeated));
     }
+    match &entry.entry.act {
+        Act::Read {
+            key,
+            version,
+            value,
+        } => match entry.node {
+            NodeId::Storage { tag } => answered(alloc, world, number, tag, key, *version, value),
+            _ => Err(no_run(number, Cause::NoSuchAct)),
+        },
+        _ => happened(alloc, world, number, entry),
+    }
+}
+
+/// Makes the event that an entry is, which is no read.
+fn happened(alloc: Global, world: World, number: usize, entry: &NodeEntry) -> Result<World, Finding>
+    requires run { IsRun world.config world.turns }
+    ensures config { IfOk result (λ after. after.config ≡ world.config) }
+    ensures run { IfOk result (λ after. IsRun after.config after.turns) }
+    ensures turns { IfOk result (λ after. rule.after_act world.config world.turns number (placed_of entry.now) None ≡ Ok after.turns) }
+    ensures finding { IfErr result (λ finding. finding ≢ Finding.Memory
+        → rule.after_act world.config world.turns number (placed_of entry.now) None ≡ Err finding) }
+{
+    step_law();
     let event = match event_of(entry.node, &entry.entry.act) {
         Ok(Some(event)) => event,
         Ok(None) => return Err(no_run(number, Cause::NoSuchAct)),
         Err(_) => return Err(Finding::Memory),
     };
+    let _within = event.node();
     match world.step_owned(alloc, event) {
         Ok((after, answer)) => {
             if says(&entry.entry.act, &answer) {
@@ -125,6 +167,59 @@ fn enter(
         }
         Err(NotEnabled::Memory) => Err(Finding::Memory),
         Err(why) => Err(no_run(number, Cause::NotEnabled(why))),
+    }
+}
+
+/// Asks the world for what the storage server of a tag answers a read; the world stays as it is.
+fn answered(
+    alloc: Global,
+    world: World,
+    number: usize,
+    tag: Tag,
+    key: &Bytes,
+    version: Version,
+    value: &Option<Bytes>,
+) -> Result<World, Finding>
+    requires run { IsRun world.config world.turns }
+    ensures config { IfOk result (λ after. after.config ≡ world.config) }
+    ensures run { IfOk result (λ after. IsRun after.config after.turns) }
+    ensures turns { IfOk result (λ after. rule.after_read world.config world.turns number (read_at tag key.now version value.now) ≡ Ok after.turns) }
+    ensures finding { IfErr result (λ finding. finding ≢ Finding.Memory
+        → rule.after_read world.config world.turns number (read_at tag key.now version value.now) ≡ Err finding) }
+{
+    let mut world = world;
+    match world.read(alloc, tag, key, version) {
+        None => Err(no_run(number, Cause::NotEnabled(NotEnabled::NoSuchNode))),
+        // A world's store fails for want of memory alone.
+        Some(Err(ReadFault::Store(_))) => Err(Finding::Memory),
+        Some(answer) => {
+            if is_answer(&answer, value) {
+                Ok(world)
+            } else {
+                Err(Finding::ReadDiffers { at: number, answer })
+            }
+        }
+    }
+}
+
+/// Whether an answer to a read is this value.
+fn is_answer(answer: &Result<Option<Bytes>, ReadFault>, value: &Option<Bytes>) -> bool
+    ensures { result ≡ reads.is_answer answer.now value.now }
+{
+    match answer {
+        Ok(answered) => is_same_value(answered, value),
+        Err(_) => false,
+    }
+}
+
+/// Whether two values are the same, or there is neither.
+fn is_same_value(one: &Option<Bytes>, other: &Option<Bytes>) -> bool
+    ensures { result ≡ reads.is_same_value one.now other.now }
+{
+    match (one, other) {
+        (None, None) => true,
+        (Some(one), Some(other)) => one == other,
+        _ => false,
     }
 }
 

@@ -9,7 +9,7 @@ use fr_proxy::Outcome;
 use fr_run::{Answer, Event};
 
 /// The event that an act of a node is: each act has one place where this is said. None if the node does not do such a
-/// thing.
+/// thing, and of a read, at which nothing happens.
 pub fn event_of(node: NodeId, act: &Act) -> Result<Option<Event>, Memory>
     ensures { IfOk result (λ event. event ≡ entry.event_of node act.now) }
 {
@@ -48,6 +48,8 @@ pub fn event_of(node: NodeId, act: &Act) -> Result<Option<Event>, Memory>
         },
         Act::Crashed => Some(Event::Crash { node }),
         Act::Lost => lose_of(node),
+        // Nothing happens at a read: the audit asks the world for what it answers.
+        Act::Read { .. } => None,
     })
 }
 
@@ -63,13 +65,15 @@ fn lose_of(node: NodeId) -> Option<Event>
     }
 }
 
-/// Whether an act says what the world answers: what it was told, or the outcome of what it heard.
+/// Whether an act says what the world answers: what it was told, or the outcome of what it heard. A read says nothing
+/// of an event's answer.
 pub fn says(act: &Act, answer: &Answer) -> bool
     ensures { result ≡ entry.says act.now answer.now }
 {
     match act {
         Act::Asked { tell, .. } => is_told(answer, tell),
         Act::Heard { outcome, .. } => has_outcome(answer, outcome),
+        Act::Read { .. } => false,
         _ => true,
     }
 }

@@ -10,7 +10,8 @@ pub enum AuditFault {
     /// This entry is no event that can happen there; or it has the stamp and the node of the entry before.
     #[error("not a run at {at}")]
     NotARun { at: usize },
-    /// What this entry was told, or the outcome that it has, is not what the world gives.
+    /// What this entry was told, or the outcome that it has, is not what the world gives; or it is a read that its
+    /// storage server answers otherwise, or refuses.
     #[error("tell differs at {at}")]
     TellDiffers { at: usize },
     /// The journal of this node was not closed, or not with the last state of the node; or there is no such node.

@@ -4,8 +4,9 @@ ghost use Rattle.fr_audit.specs.Audited as rule;
 
 use crate::fault::AuditFault;
 use fr_ask::Last;
-use fr_base::NodeId;
+use fr_base::{Bytes, NodeId};
 use fr_run::{Answer, NotEnabled};
+use fr_storage::ReadFault;
 use thiserror::Error;
 
 /// Why an entry is no event that can happen there. Of several reasons the first in the order of these variants is told.
@@ -28,17 +29,33 @@ pub enum Cause {
 pub enum Finding {
     /// This entry is no event that can happen there, for this cause.
     #[error("not a run at {at}: {cause}")]
-    NotARun { at: usize, cause: Cause },
+    NotARun {
+        at: usize,
+        cause: Cause,
+    },
     /// What this entry was told, or the outcome that it has, is not what the world gives: this answer.
     #[error("tell differs at {at}")]
-    TellDiffers { at: usize, answer: Answer },
+    TellDiffers {
+        at: usize,
+        answer: Answer,
+    },
     /// The journal of this node was not closed, or not with the last state of the node: this one. None: there is no
     /// such node.
     #[error("a last state differs")]
-    StateDiffers { node: NodeId, last: Option<Last> },
+    StateDiffers {
+        node: NodeId,
+        last: Option<Last>,
+    },
     /// There is no memory.
     #[error("out of memory")]
     Memory,
+    /// This entry is a read that the storage server answers otherwise: with this value, or it refuses it for this
+    /// reason. As a fault it is `TellDiffers`.
+    #[error("tell differs at {at}")]
+    ReadDiffers {
+        at: usize,
+        answer: Result<Option<Bytes>, ReadFault>,
+    },
 }
 
 impl Finding {
@@ -51,6 +68,7 @@ impl Finding {
             Finding::TellDiffers { at, .. } => AuditFault::TellDiffers { at: *at },
             Finding::StateDiffers { node, .. } => AuditFault::StateDiffers { node: *node },
             Finding::Memory => AuditFault::Memory,
+            Finding::ReadDiffers { at, .. } => AuditFault::TellDiffers { at: *at },
         }
     }
 }

@@ -2,7 +2,7 @@
 ghost use Rattle.std.specs.Prelude.{◌≡◌, IfOk};
 
 use fr_ask::{Ask, Tell};
-use fr_base::{Memory, NodeId, Shape, Stamp, Step, Version};
+use fr_base::{Bytes, Memory, NodeId, Shape, Stamp, Step, Version};
 use fr_mutation::Batch;
 use fr_proxy::Outcome;
 
@@ -37,6 +37,13 @@ pub enum Act {
     Crashed,
     /// A log is lost, for good.
     Lost,
+    /// A storage server answered a read: at this version the key has this value, or none. It changes no state. A read
+    /// that is refused is no act.
+    Read {
+        key: Bytes,
+        version: Version,
+        value: Option<Bytes>,
+    },
 }
 
 impl Act {
@@ -68,7 +75,26 @@ impl Act {
             Act::Begun { shape } => Act::Begun { shape: *shape },
             Act::Crashed => Act::Crashed,
             Act::Lost => Act::Lost,
+            Act::Read {
+                key,
+                version,
+                value,
+            } => Act::Read {
+                key: key.copy()?,
+                version: *version,
+                value: copy_value(value)?,
+            },
         })
+    }
+}
+
+/// An equal value of a key, or none.
+fn copy_value(value: &Option<Bytes>) -> Result<Option<Bytes>, Memory>
+    ensures { IfOk result (λ copy. copy ≡ value.now) }
+{
+    match value {
+        Some(value) => Ok(Some(value.copy()?)),
+        None => Ok(None),
     }
 }
 

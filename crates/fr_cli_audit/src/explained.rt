@@ -3,9 +3,10 @@ use crate::differing::differing;
 use fr_ask::Last;
 use fr_audit::{Cause, Finding, entry_at};
 use fr_audit_journal::{Act, Journal, NodeEntry, node_text};
-use fr_base::{Memory, NodeId, Shape, Version};
+use fr_base::{Bytes, Memory, NodeId, Shape, Version};
 use fr_forms::{Formed, put_printable};
 use fr_run::Answer;
+use fr_storage::ReadFault;
 use serde_json::Value;
 use std::alloc::{AllocError, Global};
 
@@ -22,6 +23,7 @@ pub fn finding_text(
         Finding::TellDiffers { at, answer } => told_text(alloc, journals, *at, answer)?,
         Finding::StateDiffers { node, last } => state_text(alloc, journals, *node, last)?,
         Finding::Memory => return Err(Memory),
+        Finding::ReadDiffers { at, answer } => read_text(alloc, journals, *at, answer)?,
     };
     Ok(printable(alloc, text.as_str())?)
 }
@@ -50,6 +52,39 @@ fn told_text(
     at: usize,
     answer: &Answer,
 ) -> Result<String, Memory> {
+    let answer = write_answer(alloc, answer)?;
+    let answer = format!(in alloc; "{answer}")?;
+    differs_text(alloc, journals, at, answer.as_str())
+}
+
+/// The entry whose read is answered otherwise by the rules, and both answers.
+fn read_text(
+    alloc: Global,
+    journals: &[Journal],
+    at: usize,
+    answer: &Result<Option<Bytes>, ReadFault>,
+) -> Result<String, Memory> {
+    let answer = match answer {
+        Ok(value) => {
+            let value = value.to_value(alloc)?;
+            format!(in alloc; "{value}")?
+        }
+        Err(ReadFault::NotMine) => String::from_str(alloc, "refused NotMine")?,
+        Err(ReadFault::TooOld) => String::from_str(alloc, "refused TooOld")?,
+        Err(ReadFault::FutureVersion) => String::from_str(alloc, "refused FutureVersion")?,
+        // The store of a world has no other fault than to want memory.
+        Err(ReadFault::Store(_)) => return Err(Memory),
+    };
+    differs_text(alloc, journals, at, answer.as_str())
+}
+
+/// The entry that says something else than the rules, and what they say.
+fn differs_text(
+    alloc: Global,
+    journals: &[Journal],
+    at: usize,
+    answer: &str,
+) -> Result<String, Memory> {
     let placed = match entry_at(alloc, journals, at) {
         Ok(Some(placed)) => placed,
         Ok(None) => return Ok(format!(in alloc; "there is no entry {at}")?),
@@ -58,7 +93,6 @@ fn told_text(
     let place = place_text(alloc, at, &placed)?;
     let act = act_text(alloc, &placed.entry.act)?;
     let said = said_text(alloc, &placed.entry.act)?;
-    let answer = write_answer(alloc, answer)?;
     Ok(format!(in alloc; "{place}, {act}: {said}; by the rules {answer}")?)
 }
 
@@ -96,6 +130,11 @@ fn act_text(alloc: Global, act: &Act) -> Result<String, Memory> {
         Act::Begun { shape } => begun_text(alloc, shape)?,
         Act::Crashed => String::from_str(alloc, "crashed")?,
         Act::Lost => String::from_str(alloc, "lost")?,
+        Act::Read { key, version, .. } => {
+            let version = version.get();
+            let key = key.to_value(alloc)?;
+            format!(in alloc; "read {key} at version {version}")?
+        }
     };
     Ok(text)
 }
@@ -133,6 +172,10 @@ fn said_text(alloc: Global, act: &Act) -> Result<String, Memory> {
         Act::Heard { outcome, .. } => {
             let outcome = outcome.to_value(alloc)?;
             Ok(format!(in alloc; "its outcome was {outcome}")?)
+        }
+        Act::Read { value, .. } => {
+            let value = value.to_value(alloc)?;
+            Ok(format!(in alloc; "it answered {value}")?)
         }
         _ => Ok(String::new(alloc)),
     }

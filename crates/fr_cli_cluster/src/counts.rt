@@ -94,6 +94,7 @@ impl Counts {
             Act::Begun { .. } => {}
             Act::Crashed => add(&mut self.crashed, true),
             Act::Lost => add(&mut self.lost, true),
+            Act::Read { .. } => {}
         }
         is_open
     }

@@ -105,6 +105,7 @@ macro_rules! kind {
         "begun" Begun [shape: members! { degree: Optional(&COUNT), logs: Optional(&COUNT) }];
         "crashed" Crashed {};
         "lost" Lost {};
+        "read" Read { key: HEX, value: OrNull(&HEX), version: VERSION };
     }};
     (Outcome $($way:tt)+) => { $crate::one_of! { $($way)+; Outcome;
         "waiting" Waiting {};

@@ -1,5 +1,5 @@
 -- That a node whose turn a run has, has its journal.
-use Rattle.std.proofs.Common.{◌≡◌, ℕ, Bool, true, false, cond, not, ◌||◌, List, [], ◌∷◌, ◌++◌, map, Option, None, Some, Result, Ok, Err, refl, sym, ap, subst, ◌∙◌}
+use Rattle.std.proofs.Common.{◌≡◌, ℕ, Bool, true, false, cond, not, ◌||◌, List, [], ◌∷◌, ◌++◌, map, Option, None, Some, Result, Ok, Err, inl, inr, refl, sym, ap, subst, ◌∙◌}
 use Rattle.std.proofs.Math.Bool.{or-true}
 use Rattle.std.proofs.lemmas.List.Elements.{All-append, All-cons, All-head, All-nil, All-tail}
 use Rattle.std.proofs.lemmas.List.Sorted.{All-permutation}
@@ -31,7 +31,7 @@ use Rattle.fr_audit_journal.specs.declared.act.Act.{Act}
 use Rattle.fr_audit_journal.specs.declared.act.Act.TheVariants as act
 use Rattle.fr_audit_journal.specs.declared.act.Entry.{Entry}
 use Rattle.fr_audit.specs.Entry.{event_of}
-use Rattle.fr_audit.specs.Run.{Happen, IsTurnOf}
+use Rattle.fr_audit.specs.Run.{Happen, IsTurnOf, Makes}
 use Rattle.fr_runtime.specs.Handed.{has_journal}
 
 -- ---- whose turn an event is
@@ -154,10 +154,15 @@ placed_have (j ∷ js) =
 happened : (c : Config) (js : List JournalState) (ps : List Placed) (h later : List Turn) → Happen c h ps later
     → All (λ p. Has js p.node) ps → All (λ t. Has js (actor_of t)) h → All (λ t. Has js (actor_of t)) later
 happened c js [] h later is entries turns = subst (All (λ (t : Turn). Has js (actor_of t))) is turns
-happened c js (p ∷ ps) h later (t, (is, rest)) entries turns =
-    let who = acts c h p.node p.entry.act is.event t is.is_event is.can_happen in
-    happened c js ps (t ∷ h) later rest (All-tail (λ (q : Placed). Has js q.node) p ps entries)
-    (All-cons (λ (u : Turn). Has js (actor_of u)) t h (subst (Has js) (sym who) (All-head (λ (q : Placed). Has js q.node) p ps entries)) turns)
+happened c js (p ∷ ps) h later (next, (makes, rest)) entries turns =
+    happened c js ps next later rest (All-tail (λ (q : Placed). Has js q.node) p ps entries) (go makes)
+  where
+    go : Makes c h p next → All (λ (u : Turn). Has js (actor_of u)) next
+    go (inl (t, (is, same))) =
+        let who = acts c h p.node p.entry.act is.event t is.is_event is.can_happen in
+        subst (All (λ (u : Turn). Has js (actor_of u))) same
+        (All-cons (λ (u : Turn). Has js (actor_of u)) t h (subst (Has js) (sym who) (All-head (λ (q : Placed). Has js q.node) p ps entries)) turns)
+    go (inr (r, (is, same))) = subst (All (λ (u : Turn). Has js (actor_of u))) same turns
 
 -- each turn of a run is of a node that has its journal
 pub turns-have : MergedHasAll → (c : Config) (js : List JournalState) (h : List Turn) → Happen c [] (merged js) h → All (λ t. Has js (actor_of t)) h

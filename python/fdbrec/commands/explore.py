@@ -32,7 +32,7 @@ MOST = 2**53 - 1
 MOST_PLAIN = 1 << 20
 # kinds of nodes in the order of the audit, acts, asks, and their numbers; exploring/ has each in the same order
 ORDER = ("cell", "log", "sequencer", "proxy", "recoverer", "storage")
-ACTS = ("asked", "heard", "submitted", "begun", "crashed", "lost")
+ACTS = ("asked", "heard", "submitted", "begun", "crashed", "lost", "read")
 ASKS = ("read", "write", "seed", "push", "lock", "peek", "mark_asked", "pop", "next")
 NUMBERS = ("version", "request", "ballot", "after", "through", "seeded_to", "epoch")
 # how wide the numbers of a column are: for `struct`, for the page, and between which numbers

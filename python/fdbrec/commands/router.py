@@ -31,6 +31,7 @@ The counts, which are those of all seeds together if there are several:
   late tells heard       tells that came after a later one of the same node
   recoveries chosen      epochs that recoverers opened; `lost` counts the recoverers that gave up
   rollbacks              storage servers that went back to an earlier version, by so many `versions undone` in all
+  reads answered         those of clients, of a key at a version, which storage servers did not refuse
   batches acknowledged   committed, as their proxies said; `waiting`: nothing was said of them; `taken back`: numbered,
                          and then cut off by a recovery
   refused as Full        lines for which a log had no room
@@ -72,6 +73,7 @@ SAID = (
     ("lost", "lost"),
     ("rollbacks", "rollbacks"),
     ("undone", "versions undone"),
+    ("reads", "reads answered"),
     ("acknowledged", "batches acknowledged"),
     ("waiting", "waiting"),
     ("taken", "taken back"),

@@ -51,6 +51,7 @@ function done(machine, word, what) {
     return { [kind]: machine.ask(name, said) };
   }
   if (word === "heard") return machine.hear(what.from, what.tell, what.taken);
+  if (word === "read") return machine.read(what.key, what.version);
   return word === "submitted" ? machine.submit(what) : null;
 }
 
@@ -98,7 +99,7 @@ function isElsewhere(kind, before, after) {
   return false;
 }
 
-const ACTS = ["asked", "heard", "submitted", "begun", "crashed", "lost"];
+const ACTS = ["asked", "heard", "submitted", "begun", "crashed", "lost", "read"];
 const [BEGUN, CRASHED, LOST] = [3, 4, 5];
 
 /** One entry. What it says is made where it is looked at. */

@@ -45,6 +45,7 @@ function markOf({ node, word, what, why, news, rollback, applied }) {
   if (word === "crashed" || word === "lost") return { shape: "cross", text: word, isBad: true };
   if (word === "submitted") return { shape: "taken", text: "" };
   if (word === "begun") return { shape: "begun", text: "begins", isGreat: true };
+  if (word === "read") return { shape: "small", text: "read" };
   if (rollback) return { shape: "back", text: `${rollback.from} → ${rollback.to}`, isBad: true, isGreat: true };
   if (why) return { shape: "ring", text: why };
   if (word === "heard") return markHeard(node, what, news, applied);

@@ -264,6 +264,13 @@ class Storage {
     if (taken === null) this.state = state;
     return { applied: [], undone, cut, from, to: this.version, isNew: taken === null };
   }
+  /** The value that a key had at a version: what its first undo row above it holds, or what it has; or why it does not say. */
+  read(key, version) {
+    if (version < this.floor) return { why: "TooOld" };
+    if (version > this.version) return { why: "FutureVersion" };
+    const row = this.undo.find((it) => it[0] > version && it[1] === key);
+    return { value: row ? row[2] : this.rows.has(key) ? this.rows.get(key) : null };
+  }
   /** Undoes all versions above one; answers the undo rows that it used, newest first. */
   undoTo(to) {
     const used = [];

@@ -171,7 +171,7 @@ class Run {
       const differs = this.differs(entry, what, got);
       if (differs) return { at, line: `tell differs at ${at}`, ...differs };
       entry.news = entry.word === "submitted" || isElsewhere(node.kind, before, standing(node.kind, node.machine, this.after));
-      this[entry.word](entry, what, got);
+      if (entry.word !== "read") this[entry.word](entry, what, got);
       if (entry.from !== null) this.addArrow(entry, at);
     }
     node.entries.push(at);
@@ -186,7 +186,16 @@ class Run {
     const outcome = node.kind === "proxy" ? got : null;
     if (word === "heard" && !isSame(outcome, what.outcome))
       return { says: `${node.name} says something wrong of its batch when it hears from ${from.name}: ${tellText(what.tell)}.`, sides: sidesOf(BY_RULES, [outcome, what.outcome], outcomeWords) };
-    return null;
+    return word === "read" ? this.readElse(node, what, got) : null;
+  }
+
+  /** How a read is answered by another value than its storage server has, or is one that it must refuse. */
+  readElse(node, what, got) {
+    const { shards } = this.config, { tag } = node.what;
+    const isMine = what.key >= shards[tag] && !(tag + 1 < shards.length && what.key >= shards[tag + 1]);
+    const why = isMine ? got.why : "NotMine", says = `${node.name} answers a read of the key ${bytesText(what.key)} at version ${what.version} wrongly.`;
+    if (why) return { says, sides: sidesOf(BY_RULES, [{ refused: why }, what.value], (it) => (it && it.refused ? `refused, ${reasonText(it.refused)}` : valueText(it))) };
+    return got.value === what.value ? null : { says, sides: sidesOf(BY_RULES, [got.value, what.value], valueText) };
   }
 
   begun(entry) {

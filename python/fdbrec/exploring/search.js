@@ -146,6 +146,7 @@ function keyItems(run, rest) {
 const hasVersion = (version) => (entry) => {
   const { what, applied, rollback, word } = entry;
   if (rollback) return rollback.versions.includes(version);
+  if (word === "read") return what.version === version;
   if (applied && applied.includes(version)) return true;
   const [ask, it] = what.ask ? variant(variant(what.ask)[1]) : ["", {}], tell = what.tell ? variant(variant(what.tell)[1])[1] : {};
   if (word === "heard") return tell.version === version || (what.outcome && variant(what.outcome)[1].version === version);
@@ -154,6 +155,7 @@ const hasVersion = (version) => (entry) => {
 
 const hasKey = (key) => ({ what, rollback, applied, word }) => {
   if (word === "submitted") return actsOn(what.batch, key);
+  if (word === "read") return what.key === key;
   if (rollback) return rollback.rows.some((it) => it[1] === key);
   const [ask, it] = what.ask ? variant(variant(what.ask)[1]) : ["", {}];
   if (ask === "push") return it.bodies.some(([, batch]) => actsOn(batch, key));

@@ -45,6 +45,7 @@ function whyNot(run, entry) {
   if (word === "asked") return whyNotAsked(run, node, entry, from);
   if (word === "heard") return whyNotHeard(run, node, entry, from);
   if (word === "lost" && node.kind !== "log") return says(`${node.name} is lost for good, and only a log can be.`);
+  if (word === "read" && node.kind !== "storage") return says(`${node.name} answers a read of a key, and only a storage server does.`);
   if (word !== "submitted") return null;
   if (node.kind !== "proxy") return says(`${node.name} takes a batch, and only a proxy does.`);
   if (node.machine.open) return says(`${node.name} takes a batch while another one is under way.`);
@@ -174,6 +175,7 @@ function entryText(run, entry) {
   if (word === "heard") return `${node.name} hears from ${by}: ${tellText(what.tell)}${tail}.${heardText(entry)}`;
   if (word === "submitted") return `A client hands ${node.name} a batch: ${batchText(what.batch)}.`;
   if (word === "begun") return `${node.name} begins` + ("logs" in what ? `, to open a generation of ${what.logs} logs, each shard on ${what.degree}.` : ".");
+  if (word === "read") return `A client reads the key ${bytesText(what.key)} of ${node.name} at version ${what.version}: ${valueText(what.value)}.`;
   return `${node.name} ${word === "lost" ? "is lost for good" : "crashes"}.`;
 }
 

@@ -254,8 +254,12 @@ class Events:
             return "TooOld"
         if version > server.version:
             return "FutureVersion"
-        value = next(rows for at, rows in reversed(self.rows[tag]) if at <= version).get(key)
+        value = self.value_at(tag, key, version)
         return None if value is None else value.hex()
+
+    def value_at(self, tag, key, version):
+        """The value of a key once a storage server had applied the last batch through a version."""
+        return next(rows for at, rows in reversed(self.rows[tag]) if at <= version).get(key)
 
     def stands(self, tag):
         """Where a storage server stands, as a line of a run."""

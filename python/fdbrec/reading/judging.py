@@ -55,6 +55,9 @@ def answer_of(events, name, act):
         events.crash(**name)
     elif kind == "lost" and of == "log":
         events.lose(**numbers)
+    elif kind == "read" and of == "storage":
+        events.find(name)
+        return events.read(numbers["tag"], it["key"], it["version"])
     else:
         raise Refused("NotItsAct")
     return None
@@ -70,6 +73,8 @@ def spoken_act(act):
         return f"told {form(it['tell'])} by {spoken(it['from'])}{taken}"
     if kind == "submitted":
         return f"submitted {form(it['batch'])} with step {it['step']}"
+    if kind == "read":
+        return f"read {form(it['key'])} at version {it['version']}"
     return f"{kind} with logs {it['logs']} and degree {it['degree']}" if it else kind
 
 
@@ -78,7 +83,15 @@ def entered_answer(act):
     ((kind, it),) = act.items()
     if kind == "asked":
         return it["tell"], "it told"
+    if kind == "read":
+        return it["value"], "it answered"
     return it.get("outcome"), "its outcome was"
+
+
+def spoken_answer(act, answer):
+    """What is told or said by the rules; of a read it may be a refusal, by its name."""
+    is_refused = "read" in act and answer in ("NotMine", "TooOld", "FutureVersion")
+    return f"refused {answer}" if is_refused else form(answer)
 
 
 def differing(one, other):
@@ -128,7 +141,7 @@ def faults_of_entries(trial, journals, order, heed):
         entered, named = entered_answer(act)
         if by_rules != entered:
             here = f"entry {at}, {spoken(name)} at stamp {stamp}"
-            said = f"{named} {form(entered)}; by the rules {form(by_rules)}"
+            said = f"{named} {form(entered)}; by the rules {spoken_answer(act, by_rules)}"
             return Verdict(f"tell differs at {at}", f"{here}, {spoken_act(act)}: {said}", at, name)
     return None
 

@@ -1,5 +1,5 @@
 """Entries of journals, taken one by one as `events` takes them, in time that goes by what each touches: for judging,
-which needs no numbers of asks, no journals and no reads. What is kept of a journal, and what is told by the rules, has
+which needs no numbers of asks and no journals. What is kept of a journal, and what is told by the rules, has
 its members in the order of their names: so equal messages have equal keys."""
 
 import bisect
@@ -67,6 +67,16 @@ class Contents:
             _, self.at, old = self.undo.pop()
             for key, value in old.items():
                 self.put(key, value, {})
+
+    def value_at(self, key, version):
+        """The value that a key had at a version: what the first batch above it that changed the key found there."""
+        value = self.rows.get(key)
+        for at, _, old in reversed(self.undo):
+            if at <= version:
+                break
+            if key in old:
+                value = old[key]
+        return value
 
     def forget(self, floor):
         while self.undo and self.undo[0][0] <= floor:
@@ -163,6 +173,9 @@ class Trial(Events):
             if rows.at < record["version"] <= server.version:
                 rows.apply(record["version"], record["batch"])
         rows.forget(server.floor)
+
+    def value_at(self, tag, key, version):
+        return self.rows[tag].value_at(key, version)
 
     def last(self, name):
         last = self.nodes.last(name)

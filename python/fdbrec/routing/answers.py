@@ -9,7 +9,7 @@ from .processes import Trouble, spoken
 ASKED = {"cell": "cell", "log": "log", "sequencer": "seq"}
 # the members of each answer; wants of a storage server come with `wants` alone, and it may say `stands` for `last`
 MEMBERS = {"init": "last", "last": "last", "ask": "entry last", "hear": "entry last wants", "back": "entries last"}
-MEMBERS |= {"begin": "entry last wants", "submit": "entry last wants", "wants": "wants"}
+MEMBERS |= {"begin": "entry last wants", "submit": "entry last wants", "wants": "wants", "read": "value"}
 ACTS = {"ask": "asked", "hear": "heard", "begin": "begun", "submit": "submitted"}
 WANTS = forms.every(forms.array(forms.NODE, forms.part("audit.json#/$defs/ask", forms.ASK)))
 ERROR = forms.members(code=forms.number(0, 2**31 - 1), text=("text",))
@@ -34,6 +34,8 @@ def form_of(name, word, kind):
     """The form of a member of the answer to a line."""
     if name == "last":
         return forms.part("audit.json#/$defs/last", forms.one_of(**{kind: forms.LAST[1][kind]}))
+    if name == "value":
+        return forms.or_null(forms.HEX)
     if name == "entries":
         return forms.every(entry_form(kind, "heard", "crashed"))
     return WANTS if name == "wants" else entry_form(kind, ACTS[word])

@@ -9,6 +9,7 @@ COMBINED = ("add", "and", "or", "xor", "max", "min")
 # Of some 1,000 steps: a node asks, a message comes, a batch is handed out, what is open is taken, a node comes back, a
 # wall is put up, a recoverer begins, a log is lost.
 WEIGHTS = {"ask": 260, "come": 500, "submit": 60, "take": 150, "back": 30, "wall": 4, "begin": 2, "lose": 1}
+READS = 8  # after one of so many steps a client reads
 KINDS = {"proxy": 6, "recoverer": 8, "storage": 4}
 # Which kinds are killed, of nodes with files and of those that are then gone for good.
 KILLED = {"cell": 6, "log": 8, "storage": 8, "sequencer": 2, "proxy": 2, "recoverer": 4}

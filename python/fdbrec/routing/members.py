@@ -23,6 +23,7 @@ class Member:
         self.process, self.state = None, "down"
         self.left = []  # what was left without an answer at a kill
         self.is_back = True  # whether `back` was answered since
+        self.serves = self.kind == "storage"  # whether it answers reads
 
     def start(self):
         """Starts it: for the first time with the word that makes its files, else over those that it has."""
@@ -113,6 +114,10 @@ class Members:
         it.wants = body.get("wants", it.wants)
         for entry in entries:
             self.enter(it, entry)
+        if word == "read":
+            its = {"key": given["key"], "value": body["value"], "version": given["version"]}
+            self.act(it, {"read": its})
+            self.counts["reads"] += 1
         if word == "back":
             self.settle(it, entries)
         if word != "init":
@@ -126,12 +131,22 @@ class Members:
         """Enters an act that the router makes."""
         self.enter(it, {"act": act, "stamp": self.stamp + 1})
 
+    def read(self, it, key, version):
+        """A client reads a key of a storage server at a version; what is answered is entered. No other line is open
+        then, so the entry stands where the server answered: what it heard before has a lower stamp, and what it hears
+        from now on, with this stamp in its line, a greater one."""
+        self.collect(it)
+        self.give(it, {"type": "read", "key": key, "version": version})
+        self.collect(it)
+
     def failed(self, it, given, body):
         code = body["code"]
         if given["type"] == "begin" and code == 10:
             words = dict(zip(it.words, it.words[1:]))
             shape = {name: int(words[f"--{name}"]) for name in ("degree", "logs") if f"--{name}" in words}
             self.act(it, {"begun": shape})
+        elif given["type"] == "read" and code == 10:
+            it.serves = False
         elif code == 14:
             self.counts["full"] += body["text"] == "Full"
         else:

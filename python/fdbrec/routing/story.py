@@ -28,6 +28,7 @@ class Story(Cluster):
                 self.kill(dice)
             else:
                 getattr(self, "do_" + dice.weighed(self.weights(dice)))(dice, step)
+            self.read(drawing.Dice(self.seed, "read", step))
         for it in self.members.of("cell", "log", "storage"):
             self.bring_back(it)
         self.collect()
@@ -150,6 +151,18 @@ class Story(Cluster):
         if found:
             self.members.lose(dice.choice(found))
             self.counts["logs"] += 1
+
+    def read(self, dice):
+        """Now and then a client reads a key of a storage server, mostly at a version that the server has."""
+        found = [it for it in self.members.of("storage") if it.state == "up" and it.serves and it.stands]
+        if not found or not dice.one_of(drawing.READS):
+            return
+        it = dice.choice(found)
+        begin, end = [*self.config["shards"], None][it.its["tag"] :][:2]
+        own = [key for key in drawing.KEYS if key >= begin and (end is None or key < end)]
+        floor, version = it.stands["storage"]["floor"], it.stands["storage"]["version"]
+        at = dice.choice([floor, version, dice.randint(floor, version), max(floor - 1, 0), version + 1])
+        self.members.read(it, dice.choice(own or drawing.KEYS), at)
 
     # ---- kills
 

@@ -156,6 +156,7 @@ ACT = one_of(
     begun=members(degree=maybe(COUNT), logs=maybe(COUNT)),
     crashed=NOTHING,
     lost=NOTHING,
+    read=members(key=HEX, value=or_null(HEX), version=VERSION),
 )
 LAST = one_of(
     cell=members(promised=BALLOT, value=CELL_VALUE, written=BALLOT),

@@ -261,6 +261,9 @@ func (n *node) takeAll(group []*item, found []*answer) error {
 	if err := n.write(records...); err != nil {
 		return err
 	}
+	if err := n.write(n.readings(group, found)...); err != nil {
+		return err
+	}
 	for at, its := range found {
 		n.forget(group[at])
 		n.took(group[at], its)
@@ -270,6 +273,42 @@ func (n *node) takeAll(group []*item, found []*answer) error {
 		}
 	}
 	return nil
+}
+
+// readings are the entries of the reads that a storage server answered, for its journal: it makes none itself. They stand
+// behind what it did before, which has lower stamps: of lines that are given together a hear comes first. And what it does
+// after them has greater ones, since the next lines are given under the clock, which sees these stamps here.
+func (n *node) readings(group []*item, found []*answer) []journal.Record {
+	if !n.agent.journals.Keep {
+		return nil
+	}
+	var records []journal.Record
+	stamp := n.journal.Tail.Stamp
+	for at, its := range found {
+		if line := &group[at].body; line.Type == "read" && its.Type != "error" {
+			stamp++
+			if text := reading(line, its.Value, stamp); text != nil {
+				records = append(records, journal.Record{Entries: []json.RawMessage{text}, Lazy: true})
+			}
+		}
+	}
+	n.agent.bus.Clock.See(stamp)
+	return records
+}
+
+// reading spells the entry of a read.
+func reading(line *body, value *string, stamp uint64) json.RawMessage {
+	type read struct {
+		Key     *string `json:"key"`
+		Value   *string `json:"value"`
+		Version *uint64 `json:"version"`
+	}
+	text, err := json.Marshal(map[string]interface{}{
+		"act": map[string]read{"read": {line.Key, value, line.Version}}, "stamp": stamp})
+	if err != nil {
+		return nil
+	}
+	return text
 }
 
 // took does what an answer brings about: tells and asks leave, and whoever waits is told.

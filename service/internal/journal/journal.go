@@ -6,7 +6,7 @@
 //	{"given":BODY}                             before a line that enters something is given to the node
 //	{"answer":{"entries":[..],"last":LAST}}    before what the node told leaves; it answers the oldest line given
 //	{"refused":CODE}                           the same for a line that the node refused
-//	{"entries":[..],"last":LAST}               entries that answer no line that was given: of begin, back, a crash
+//	{"entries":[..],"last":LAST}               entries that answer no line that was given: of begin, back, a crash, a read
 //	{"last":LAST}                              where the node stands, in full, before it is ended
 //
 // A new file begins when one is large and no line is open. Older files are for audits alone, and may be dropped: an audit
@@ -64,6 +64,7 @@ type Record struct {
 	Refused int               `json:"refused,omitempty"`
 	Entries []json.RawMessage `json:"entries,omitempty"`
 	Last    json.RawMessage   `json:"last,omitempty"`
+	Lazy    bool              `json:"-"` // no message rests on it, so it is not synced by itself
 }
 
 // text appends the record to a text, as a line. Answers are spelled by hand: they are parts of what a node said, and long.
@@ -249,7 +250,7 @@ func (t *Tail) take(its *Record) {
 	}
 }
 
-// Write appends records, and syncs them if that is wanted. If there is no room nothing of them is left.
+// Write appends records, and syncs them if that is wanted and one of them is not lazy. If there is no room nothing of them is left.
 func (j *Journal) Write(records ...Record) error {
 	if !j.options.Keep {
 		for at := range records {
@@ -261,13 +262,15 @@ func (j *Journal) Write(records ...Record) error {
 		return nil
 	}
 	var text []byte
+	lazy := true
 	for _, each := range records {
 		var err error
 		if text, err = each.text(text); err != nil {
 			return err
 		}
+		lazy = lazy && each.Lazy
 	}
-	if err := j.append(text); err != nil {
+	if err := j.append(text, j.options.Fsync && !lazy); err != nil {
 		return err
 	}
 	for at := range records {
@@ -279,9 +282,9 @@ func (j *Journal) Write(records ...Record) error {
 	return nil
 }
 
-func (j *Journal) append(text []byte) error {
+func (j *Journal) append(text []byte, sync bool) error {
 	_, err := j.file.WriteAt(text, j.size)
-	if err == nil && j.options.Fsync {
+	if err == nil && sync {
 		began := time.Now()
 		if err = j.file.Sync(); err == nil && j.options.Times != nil {
 			j.options.Times.Add(time.Since(began))

@@ -10,4 +10,5 @@ loop-number-preserved c =
       c.in-Ok.ensures.config ∙ c.loop-number.invariant.0,
       c.loop-number.invariant.1 ∙ one_entered placed_of c.args.world.config c.loop-number.world.turns c.args.entries.now c.loop-number.number c.index-entries-number.result c.is_repeated-repeated.result
           c.loop-number-test.true c.index-entries-number.is c.is_repeated-repeated.ensures c.in-Ok.next.turns turns,
+      c.in-Ok.ensures.run,
     )
