@@ -4,6 +4,7 @@ use Rattle.std.specs.Prelude.{is_some}
 use Rattle.std.specs.declared.cmp.Ordering.{Ordering}
 use Rattle.std.specs.Cmp.{IsTotalOrder, eq_by_cmp_equiv}
 use Rattle.std.specs.Option.{option_or}
+use Rattle.std.specs.Map.{lookup}
 use Rattle.std.specs.FinMap.{IsAntisymmetric, find, entries, retain_keys, get-entries, get-retain_keys}
 use Rattle.std.specs.BTreeMap as tree
 use Rattle.std.specs.BTreeMap.{BTreeMap, is_at}
@@ -16,7 +17,7 @@ use Rattle.fr_undo.proofs.RowLemmas.{option_or_none}
 use Rattle.fr_undo.proofs.ChangeLemmas.{none_from_is_some}
 use Rattle.fr_sql_rows.specs.Rows.{value_in, contents_in}
 use Rattle.fr_sql_calls.proofs.WorkLemmas.{get_contents}
-use Rattle.fr_sql_calls.specs.Known.{LooksUp}
+use Rattle.fr_sql_calls.specs.Known.{LooksUp, KnowsOf}
 
 some_first : {X : Type 0} (o p : Option X) → is_some o ≡ true → o ≡ option_or o p
 some_first None p e = absurd cc
@@ -131,3 +132,11 @@ looks_end held all known q e = sym (option_or_none (tree.get bytes_cmp known q))
 
 pub or_nothing : {K X : Type 0} (R : K → K → Ordering) (o : Option X) (q : K) (es : List (K × X)) → es ≡ [] → option_or o (find R q es) ≡ o
 or_nothing R o q es is = ap (λ l. option_or o (find R q l)) is ∙ option_or_none o
+
+-- what is looked up where nothing was known is all that is known
+pub known_of : (test : List ℕ → Bool) (held : List ℕ → Option (List ℕ)) (old new : Contents) → old.entries ≡ [] → LooksUp test held old new → KnowsOf test held new
+known_of test held old new none looked q = looked q ∙ ap (λ es. option_or (lookup (is_at (bytes_cmp q)) es) (cond (test q) (held q) None)) none
+
+-- once nothing is left, all that was to be looked up was
+pub looks_whole : (test : List ℕ → Bool) (held : List ℕ → Option (List ℕ)) (old new : Contents) → ((q : List ℕ) → option_or (tree.get bytes_cmp new q) None ≡ option_or (tree.get bytes_cmp old q) (cond (test q) (held q) None)) → LooksUp test held old new
+looks_whole test held old new e q = sym (option_or_none (tree.get bytes_cmp new q)) ∙ e q
