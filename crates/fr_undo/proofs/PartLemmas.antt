@@ -1,6 +1,6 @@
 -- A pull makes of the keys that its batches touch what it makes of them in a whole store.
 use Rattle.std.proofs.Common.{◌≡◌, ℕ, ◌<◌, Bool, true, false, cond, ◌||◌, ◌&&◌, max, nat_lt, List, [], ◌∷◌, ◌++◌, map, Option, None, Some, IsSome, refl, sym, ap, ◌∙◌, subst, arith}
-use Rattle.std.specs.Prelude.{is_some, ◌==◌, ◌×◌}
+use Rattle.std.specs.Prelude.{is_some, ◌==◌, min}
 use Rattle.std.specs.Option.{option_or}
 use Rattle.std.specs.Cmp.{unsigned_Decides}
 use Rattle.std.specs.FinMap as finmap
@@ -18,7 +18,7 @@ use Rattle.fr_undo.specs.State.{Place, place_cmp, StoreState, IsStoreState}
 use Rattle.fr_undo.specs.Trees.{Contents}
 use Rattle.fr_undo.specs.Law.{UntouchedLaw}
 use Rattle.fr_undo.specs.Undo.{before_if_changed, rows, joined, rows_above}
-use Rattle.fr_undo.specs.Pull.{Call, Apply, UndoTo, Advance, Forget, SetState, called, after_calls, is_within, records_between, any_touched, apply_of, advance_calls, forget_calls, calls_at, take_calls}
+use Rattle.fr_undo.specs.Pull.{Call, Apply, UndoTo, Advance, Forget, SetState, called, after_calls, is_within, records_between, any_touched, apply_of, advance_calls, forget_calls, reached, cut_at, calls_at, take_calls}
 use Rattle.fr_undo.specs.Net.{part_before, part_after}
 use Rattle.fr_undo.proofs.ChangeLemmas.{cond_none}
 use Rattle.fr_undo.proofs.UndoLemmas.{same_value-itself, get-joined, get-rows, get-rows_above}
@@ -191,24 +191,26 @@ within_both test a (SetState bytes ∷ calls) more h k = absurd h
 
 within_records : (test : List ℕ → Bool) (a : ℕ) (end : Option ℕ) (batches : List VersionedBatch) → ((q : List ℕ) → any_touched (records_between a end batches) q ≡ true → test q ≡ true) → AreWithin test a (map apply_of (records_between a end batches))
 within_records test a end [] h = tt
-within_records test a end (r ∷ rs) h = go (nat_lt a r.version && is_within end r.version) refl
+within_records test a end (r ∷ rs) h = go (nat_lt a r.version && is_within end r.version) refl (within_records test a end rs)
   where
     all : Bool → List VersionedBatch
     all b = cond b (r ∷ records_between a end rs) (records_between a end rs)
 
-    go : (b : Bool) → (nat_lt a r.version && is_within end r.version) ≡ b → AreWithin test a (map apply_of (records_between a end (r ∷ rs)))
-    go true t =
+    go : (b : Bool) → (nat_lt a r.version && is_within end r.version) ≡ b
+        → (((q : List ℕ) → any_touched (records_between a end rs) q ≡ true → test q ≡ true) → AreWithin test a (map apply_of (records_between a end rs)))
+        → AreWithin test a (map apply_of (records_between a end (r ∷ rs)))
+    go true t rest =
         let later : a < r.version = ltb-true a r.version (and_parts (nat_lt a r.version) (is_within end r.version) t).0 in
         let some : (q : List ℕ) → any_touched (all true) q ≡ true → test q ≡ true = subst (λ (b : Bool). (q : List ℕ) → any_touched (all b) q ≡ true → test q ≡ true) t h in
         subst (λ (b : Bool). AreWithin test a (map apply_of (all b))) (sym t)
-        (later, λ q e. some q (ap (λ b. b || any_touched (records_between a end rs) q) e), within_records test a end rs (λ q e. some q (later_or (touched r.batch q) (any_touched (records_between a end rs) q) e)))
+        (later, λ q e. some q (ap (λ b. b || any_touched (records_between a end rs) q) e), rest (λ q e. some q (later_or (touched r.batch q) (any_touched (records_between a end rs) q) e)))
       where
         later_or : (b d : Bool) → d ≡ true → (b || d) ≡ true
         later_or true d e = refl
         later_or false d e = e
-    go false t =
+    go false t rest =
         let some : (q : List ℕ) → any_touched (all false) q ≡ true → test q ≡ true = subst (λ (b : Bool). (q : List ℕ) → any_touched (all b) q ≡ true → test q ≡ true) t h in
-        subst (λ (b : Bool). AreWithin test a (map apply_of (all b))) (sym t) (within_records test a end rs some)
+        subst (λ (b : Bool). AreWithin test a (map apply_of (all b))) (sym t) (rest some)
 
 within_advance : (test : List ℕ → Bool) (a m n : ℕ) → AreWithin test a (advance_calls m n)
 within_advance test a m n = go (nat_lt m n)
@@ -226,8 +228,14 @@ within_forget test a m n = go (nat_lt m n)
 
 within_pull : (a floor : ℕ) (end : Option ℕ) (batches : List VersionedBatch) (upto known : ℕ) → AreWithin (any_touched (records_between a end batches)) a (calls_at a floor end batches upto known)
 within_pull a floor end batches upto known =
-    let test = any_touched (records_between a end batches) in
-    within_both test a _ _ (within_both test a _ _ (within_records test a end batches (λ q e. e)) (within_advance test a _ _)) (within_forget test a _ _)
+    let records = records_between a end batches in
+    let test = any_touched records in
+    let target = cut_at end upto in
+    let advance = advance_calls (reached a records) target in
+    let through = min known (max (reached a records) target) in
+    within_both test a (map apply_of records ++ advance) (forget_calls floor through)
+    (within_both test a (map apply_of records) advance (within_records test a end batches (λ q e. e)) (within_advance test a (reached a records) target))
+    (within_forget test a floor through)
 
 -- what a pull makes of a store, by what it makes of the keys that its batches touch
 pub part_taken : UntouchedLaw → (s : StoreState) → IsStoreState s → (end : Option ℕ) (batches : List VersionedBatch) (upto known : ℕ) (held : Contents)
@@ -247,15 +255,15 @@ part_taken law s sound end batches upto known held knows =
     test : List ℕ → Bool
     test = any_touched (records_between s.applied end batches)
 
-    first : (q : List ℕ) (b : Bool) → test q ≡ b → get s.contents q ≡ cond (test q) (get (map_of held) q) (get s.contents q)
-    first q true t = sym (ap (λ b. cond b (get (map_of held) q) (get s.contents q)) t ∙ get-map_of bytes_total held q ∙ knows q ∙ ap (λ b. cond b (get s.contents q) None) t)
-    first q false t = sym (ap (λ b. cond b (get (map_of held) q) (get s.contents q)) t)
+    first : (q : List ℕ) (b : Bool) → test q ≡ b → get s.contents q ≡ cond (test q) (get {R = bytes_cmp} (map_of held) q) (get s.contents q)
+    first q true t = sym (ap (λ b. cond b (get {R = bytes_cmp} (map_of held) q) (get s.contents q)) t ∙ get-map_of bytes_total held q ∙ knows q ∙ ap (λ b. cond b (get s.contents q) None) t)
+    first q false t = sym (ap (λ b. cond b (get {R = bytes_cmp} (map_of held) q) (get s.contents q)) t)
 
-    rows_first : (p : Place) (o : Option (Option (List ℕ))) → get s.undo p ≡ o → get s.undo p ≡ option_or (cond (nat_lt s.floor p.0) (get s.undo p) None) (get finmap.empty p)
+    rows_first : (p : Place) (o : Option (Option (List ℕ))) → get s.undo p ≡ o → get s.undo p ≡ option_or (cond (nat_lt s.floor p.0) (get s.undo p) None) (get {R = place_cmp} finmap.empty p)
     rows_first p None e =
         e
         ∙ sym (finmap.get-empty place_cmp p)
-        ∙ sym (ap (λ o. option_or o (get finmap.empty p)) (ap (λ o. cond (nat_lt s.floor p.0) o None) e ∙ cond_none (nat_lt s.floor p.0)))
+        ∙ sym (ap (λ o. option_or o (get {R = place_cmp} finmap.empty p)) (ap (λ o. cond (nat_lt s.floor p.0) o None) e ∙ cond_none (nat_lt s.floor p.0)))
     rows_first p (Some x) e =
         let lt : s.floor < p.0 = sound.above p.0 p.1 (ap is_some e) in
-        sym (ap (λ b. option_or (cond b (get s.undo p) None) (get finmap.empty p)) (lt-ltb s.floor p.0 lt) ∙ ap (λ o. option_or o (get finmap.empty p)) e ∙ sym e)
+        sym (ap (λ b. option_or (cond b (get s.undo p) None) (get {R = place_cmp} finmap.empty p)) (lt-ltb s.floor p.0 lt) ∙ ap (λ o. option_or o (get {R = place_cmp} finmap.empty p)) e ∙ sym e)

@@ -11,21 +11,22 @@ module _ (applied : ℕ) (end : Option ℕ) where
 
   none_taken : (rs : List VersionedBatch) → list_any takes rs ≡ false → records_between applied end rs ≡ []
   none_taken [] e = refl
-  none_taken (r ∷ rs) e = go (takes r) refl
+  none_taken (r ∷ rs) e = go (takes r) refl (none_taken rs)
     where
-      go : (b : Bool) → takes r ≡ b → records_between applied end (r ∷ rs) ≡ []
-      go true t = absurd (let clash : true ≡ false = sym (ap (λ b. b || list_any takes rs) t) ∙ e in cc)
-      go false t = ap (λ b. cond b (r ∷ records_between applied end rs) (records_between applied end rs)) t ∙ none_taken rs (sym (ap (λ b. b || list_any takes rs) t) ∙ e)
+      go : (b : Bool) → takes r ≡ b → (list_any takes rs ≡ false → records_between applied end rs ≡ []) → records_between applied end (r ∷ rs) ≡ []
+      go true t rest = absurd (let clash : true ≡ false = sym (ap (λ b. b || list_any takes rs) t) ∙ e in cc)
+      go false t rest = ap (λ b. cond b (r ∷ records_between applied end rs) (records_between applied end rs)) t ∙ rest (sym (ap (λ b. b || list_any takes rs) t) ∙ e)
 
   one_taken : (rs : List VersionedBatch) → list_any takes rs ≡ true → is_nothing (map apply_of (records_between applied end rs)) ≡ false
   one_taken [] e = absurd cc
-  one_taken (r ∷ rs) e = go (takes r) refl
+  one_taken (r ∷ rs) e = go (takes r) refl (one_taken rs)
     where
-      go : (b : Bool) → takes r ≡ b → is_nothing (map apply_of (records_between applied end (r ∷ rs))) ≡ false
-      go true t = ap (λ b. is_nothing (map apply_of (cond b (r ∷ records_between applied end rs) (records_between applied end rs)))) t
-      go false t =
+      go : (b : Bool) → takes r ≡ b → (list_any takes rs ≡ true → is_nothing (map apply_of (records_between applied end rs)) ≡ false)
+          → is_nothing (map apply_of (records_between applied end (r ∷ rs))) ≡ false
+      go true t rest = ap (λ b. is_nothing (map apply_of (cond b (r ∷ records_between applied end rs) (records_between applied end rs)))) t
+      go false t rest =
           ap (λ b. is_nothing (map apply_of (cond b (r ∷ records_between applied end rs) (records_between applied end rs)))) t
-          ∙ one_taken rs (sym (ap (λ b. b || list_any takes rs) t) ∙ e)
+          ∙ rest (sym (ap (λ b. b || list_any takes rs) t) ∙ e)
 
   some_front : (xs ys : List Call) → is_nothing xs ≡ false → is_nothing (xs ++ ys) ≡ false
   some_front [] ys e = absurd cc

@@ -114,6 +114,13 @@ forget_made s t through lt e = rw (lt-ltb s.floor through lt) e
 pub forget_none : (s : StoreState) (through : ℕ) → through ≤ s.floor → s ≡ after_calls s (forget_calls s.floor through)
 forget_none s through le = rw (le-ltb s.floor through le) refl
 
+-- where the one call is due, its part is not empty
+pub some_advance : (applied target : ℕ) → applied < target → advance_calls applied target ≡ [] → ⊥
+some_advance applied target lt none = let e : Advance target ∷ [] ≡ [] = sym (ap (λ (b : Bool). cond b (Advance target ∷ []) []) (lt-ltb applied target lt)) ∙ none in cc
+
+pub some_forget : (floor through : ℕ) → floor < through → forget_calls floor through ≡ [] → ⊥
+some_forget floor through lt none = let e : Forget through ∷ [] ≡ [] = sym (ap (λ (b : Bool). cond b (Forget through ∷ []) []) (lt-ltb floor through lt)) ∙ none in cc
+
 -- where the one call is refused, it leaves a stage of its part
 pub advance_left : (M : StoreState → Type 0) (s : StoreState) (target : ℕ) → s.applied < target → LeavesStages M s (Advance target ∷ []) → LeavesStages M s (advance_calls s.applied target)
 advance_left M s target lt h = rw (lt-ltb s.applied target lt) h
@@ -183,19 +190,24 @@ module _ {S : Type 0} (state_of : S → StoreState) (is_failed : S → Bool) (Ma
 
 applies_sound : (first now : StoreState) (applied : ℕ) (end : Option ℕ) (all left : List VersionedBatch) → Lies first now applied end all left → IsStoreState now → IsStoreState (after_calls now (map apply_of (records_between applied end left)))
 applies_sound first now applied end all [] lies sound = sound
-applies_sound first now applied end all (r ∷ rs) lies sound = go (nat_lt applied r.version && is_within end r.version) refl
+applies_sound first now applied end all (r ∷ rs) lies sound =
+    go (nat_lt applied r.version && is_within end r.version) refl
+    (λ h k. applies_sound first (called now (apply_of r)) applied end all rs h k)
+    (λ h. applies_sound first now applied end all rs h sound)
   where
     rest : List VersionedBatch
     rest = records_between applied end rs
 
-    go : (b : Bool) → (nat_lt applied r.version && is_within end r.version) ≡ b → IsStoreState (after_calls now (map apply_of (records_between applied end (r ∷ rs))))
-    go true e =
+    go : (b : Bool) → (nat_lt applied r.version && is_within end r.version) ≡ b
+        → (Lies first (called now (apply_of r)) applied end all rs → IsStoreState (called now (apply_of r)) → IsStoreState (after_calls (called now (apply_of r)) (map apply_of rest)))
+        → (Lies first now applied end all rs → IsStoreState (after_calls now (map apply_of rest)))
+        → IsStoreState (after_calls now (map apply_of (records_between applied end (r ∷ rs))))
+    go true e taken passed =
         subst (λ (b : Bool). IsStoreState (after_calls now (map apply_of (cond b (r ∷ rest) rest)))) (sym e)
-        (applies_sound first (called now (apply_of r)) applied end all rs (take first now applied end all r rs lies e (called now (apply_of r)) refl)
-        (extended_sound now r.version r.batch sound (later first now applied end all r rs lies e)))
-    go false e =
+        (taken (take first now applied end all r rs lies e (called now (apply_of r)) refl) (extended_sound now r.version r.batch sound (later first now applied end all r rs lies e)))
+    go false e taken passed =
         subst (λ (b : Bool). IsStoreState (after_calls now (map apply_of (cond b (r ∷ rest) rest)))) (sym e)
-        (applies_sound first now applied end all rs (pass first now applied end all r rs lies e) sound)
+        (passed (pass first now applied end all r rs lies e))
 
 advance_sound : (s : StoreState) (target : ℕ) → IsStoreState s → IsStoreState (after_calls s (advance_calls s.applied target))
 advance_sound s target sound = go (nat_lt s.applied target) refl

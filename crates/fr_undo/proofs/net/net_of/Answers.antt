@@ -10,8 +10,8 @@ returns-clause-changes c =
     let s = c.take_in_memory.new.store in
     let after = part_after c.args.held reach.applied c.args.floor reach.end c.args.records.now c.args.upto c.args.known in
     let is : s ≡ after = part_is c.args.held c.over-store.result s reach.applied c.args.floor reach.end c.args.records.now c.args.upto c.args.known c.over-store.ensures c.in_ok-take_in_memory.ensures in
-    net_changes c.in_ok-changes.changes c.args.held c.in_ok-before.before c.into_parts.result.0 after c.in_ok-before.ensures c.in_ok-changes.ensures
-    (c.into_parts.ensures.contents ∙ ap (λ (t : StoreState). t.contents) is)
+    net_changes c.in_ok-changes.changes c.args.held c.in_ok-before.before c.into_parts-after.result.0 after c.in_ok-before.ensures c.in_ok-changes.ensures
+    (c.into_parts-after.ensures.contents ∙ ap (λ (t : StoreState). t.contents) is)
 
 pub returns-clause-rows : goal.returns-clause-rows
 returns-clause-rows c =
@@ -19,7 +19,7 @@ returns-clause-rows c =
     let s = c.take_in_memory.new.store in
     let after = part_after c.args.held reach.applied c.args.floor reach.end c.args.records.now c.args.upto c.args.known in
     let is : s ≡ after = part_is c.args.held c.over-store.result s reach.applied c.args.floor reach.end c.args.records.now c.args.upto c.args.known c.over-store.ensures c.in_ok-take_in_memory.ensures in
-    net_rows c.into_parts.result.1.items after (c.into_parts.ensures.rows ∙ ap (λ (t : StoreState). t.undo) is)
+    net_rows c.into_parts-after.result.1.items after (c.into_parts-after.ensures.rows ∙ ap (λ (t : StoreState). t.undo) is)
 
 pub returns-clause-applied : goal.returns-clause-applied
 returns-clause-applied c =

@@ -6,9 +6,9 @@ use Rattle.fr_undo.specs.Undo.{extended, advanced, forgotten}
 use Rattle.fr_undo.specs.Pull.{Advance, Forget, after_calls, records_between, apply_of, advance_calls, forget_calls, cut_at, take_calls, Takes, LeavesStages}
 use Rattle.fr_undo.proofs.Applied.{Lies, begin, drop_more, pass, take}
 use Rattle.fr_undo.proofs.Stages.{refused_stages}
-use Rattle.fr_undo.proofs.Takes.{Works, whole, works_after, takes_none, takes_part, takes_all, all_applied, batch_left, at_records, at_advance, at_forget, ends, advance_made, advance_none, forget_made, forget_none, advance_left, forget_left}
+use Rattle.fr_undo.proofs.Takes.{Works, whole, works_after, takes_none, takes_part, takes_all, all_applied, batch_left, at_records, at_advance, at_forget, no_advance, no_forget, some_advance, some_forget, ends, advance_made, advance_none, forget_made, forget_none, advance_left, forget_left}
 use Rattle.fr_undo.proofs.shard_store.ShardStore.take.Goals as goal
-use Rattle.fr_undo.proofs.shard_store.ShardStore.take.Goals.{then-takes+in_ok-apply, else-takes, then-lt+in_ok-advance, else-lt, then-lt-2+in_ok-forget_through, else-lt-2}
+use Rattle.fr_undo.proofs.shard_store.ShardStore.take.Goals.{then-takes+in_ok-apply, else-takes, then-lt+in_ok-advance, else-lt}
 
 pub returns-then-is_failed-clause-takes : goal.returns-then-is_failed-clause-takes
 returns-then-is_failed-clause-takes g c =
@@ -124,15 +124,26 @@ returns-in_err-forget_through-clause-takes g c =
     (takes_part store.state store.is_failed store.MayLeave c.args.self.now c.if-lt.self c.forget_through.new.self (take_calls s end all c.args.upto c.args.known) (forgotten second through) c.forget_through.result c.in_err-forget_through.field-0.0 c.in_err-forget_through.was
     (sym c.is_failed.ensures.answer ∙ c.if-is_failed.false) moved.1.fine c.forget_through.ensures.writes (at_forget s end all c.args.upto c.args.known M first second first_is second_is part)))
 
-pub returns-clause-takes : goal.returns-clause-takes
-returns-clause-takes g c =
+pub returns-in_err-advance-clause-idle : goal.returns-in_err-advance-clause-idle
+returns-in_err-advance-clause-idle g c fine none =
+    let store = g.Self.ShardStore in
+    let s = store.state c.args.self.now in
+    let all = c.args.records.now in
+    let first = store.state c.loop-record.self in
+    let target = c.cut-target.result in
+    let first_is = all_applied s first c.applied.result c.args.end all c.loop-record.record-index c.loop-record.invariant.lies c.loop-record-test.false c.applied.ensures.value in
+    let below : first.applied < target = search rules in
+    let at : target ≡ cut_at c.args.end c.args.upto = c.cut-target.ensures in
+    absurd (some_advance first.applied (cut_at c.args.end c.args.upto) (subst (λ (n : ℕ). first.applied < n) at below) (no_advance s c.args.end all c.args.upto c.args.known first first_is none))
+
+pub returns-in_err-forget_through-clause-idle : goal.returns-in_err-forget_through-clause-idle
+returns-in_err-forget_through-clause-idle g c fine none =
     let store = g.Self.ShardStore in
     let s = store.state c.args.self.now in
     let all = c.args.records.now in
     let end = c.args.end in
     let first = store.state c.loop-record.self in
     let second = store.state c.if-lt.self in
-    let last = store.state c.if-lt-2.self in
     let works = c.loop-record.invariant.works in
     let target = c.cut-target.result in
     let first_is = all_applied s first c.applied.result end all c.loop-record.record-index c.loop-record.invariant.lies c.loop-record-test.false c.applied.ensures.value in
@@ -151,16 +162,69 @@ returns-clause-takes g c =
     let second_is = moved.0 ∙ ap (λ (n : ℕ). after_calls first (advance_calls first.applied n)) at in
     let through = c.min-through.result in
     let is : through ≡ min c.args.known second.applied = search rules in
-    let forgot : (last ≡ after_calls second (forget_calls second.floor through)) × Works store.state store.is_failed store.MayLeave c.if-lt-2.self = elim c.if-lt-2.branch [
-      | then-lt-2+in_ok-forget_through w ↦
-          let above : second.floor < through = search rules in (
-            ap store.state w.self-is ∙ forget_made second (store.state w.forget_through.new.self) through above w.in_ok-forget_through.ensures.writes.ok,
+    let above : second.floor < through = search rules in
+    absurd (some_forget second.floor (min c.args.known second.applied) (subst (λ (n : ℕ). second.floor < n) is above) (no_forget s end all c.args.upto c.args.known first second first_is second_is none))
+
+pub returns-in_ok-forget_through-clause-takes : goal.returns-in_ok-forget_through-clause-takes
+returns-in_ok-forget_through-clause-takes g c =
+    let store = g.Self.ShardStore in
+    let s = store.state c.args.self.now in
+    let all = c.args.records.now in
+    let end = c.args.end in
+    let first = store.state c.loop-record.self in
+    let second = store.state c.if-lt.self in
+    let last = store.state c.forget_through.new.self in
+    let works = c.loop-record.invariant.works in
+    let target = c.cut-target.result in
+    let first_is = all_applied s first c.applied.result end all c.loop-record.record-index c.loop-record.invariant.lies c.loop-record-test.false c.applied.ensures.value in
+    let at : target ≡ cut_at end c.args.upto = c.cut-target.ensures in
+    let moved : (second ≡ after_calls first (advance_calls first.applied target)) × Works store.state store.is_failed store.MayLeave c.if-lt.self = elim c.if-lt.branch [
+      | then-lt+in_ok-advance w ↦
+          let below : first.applied < target = search rules in (
+            ap store.state w.self-is ∙ advance_made first (store.state w.advance.new.self) target below w.in_ok-advance.ensures.writes.ok,
             subst (Works store.state store.is_failed store.MayLeave) (sym w.self-is)
-                (works_after store.state store.is_failed store.MayLeave c.if-lt.self w.forget_through.new.self (forgotten second through) w.forget_through.result w.in_ok-forget_through.field-0 w.in_ok-forget_through.was moved.1 w.forget_through.ensures.writes),
+                (works_after store.state store.is_failed store.MayLeave c.loop-record.self w.advance.new.self (advanced first target) w.advance.result w.in_ok-advance.field-0 w.in_ok-advance.was works w.advance.ensures.writes),
           )
-      | else-lt-2 w ↦
-          let there : through ≤ second.floor = search rules in
-          (ap store.state w.self-is ∙ forget_none second through there, subst (Works store.state store.is_failed store.MayLeave) (sym w.self-is) moved.1)
+      | else-lt w ↦
+          let reached : target ≤ first.applied = search rules in
+          (ap store.state w.self-is ∙ advance_none first target reached, subst (Works store.state store.is_failed store.MayLeave) (sym w.self-is) works)
     ] in
-    takes_all store.state store.is_failed store.MayLeave c.args.self.now c.if-lt-2.self (take_calls s end all c.args.upto c.args.known) tt (sym c.is_failed.ensures.answer ∙ c.if-is_failed.false) forgot.1
-    (ends s end all c.args.upto c.args.known first second last first_is second_is (forgot.0 ∙ ap (λ (n : ℕ). after_calls second (forget_calls second.floor n)) is))
+    let second_is = moved.0 ∙ ap (λ (n : ℕ). after_calls first (advance_calls first.applied n)) at in
+    let through = c.min-through.result in
+    let is : through ≡ min c.args.known second.applied = search rules in
+    let above : second.floor < through = search rules in
+    let made = forget_made second last through above c.in_ok-forget_through.ensures.writes.ok in
+    let working =
+    works_after store.state store.is_failed store.MayLeave c.if-lt.self c.forget_through.new.self (forgotten second through) c.forget_through.result c.in_ok-forget_through.field-0 c.in_ok-forget_through.was moved.1 c.forget_through.ensures.writes in
+    takes_all store.state store.is_failed store.MayLeave c.args.self.now c.forget_through.new.self (take_calls s end all c.args.upto c.args.known) tt (sym c.is_failed.ensures.answer ∙ c.if-is_failed.false) working
+    (ends s end all c.args.upto c.args.known first second last first_is second_is (made ∙ ap (λ (n : ℕ). after_calls second (forget_calls second.floor n)) is))
+
+pub returns-else-lt-2-clause-takes : goal.returns-else-lt-2-clause-takes
+returns-else-lt-2-clause-takes g c =
+    let store = g.Self.ShardStore in
+    let s = store.state c.args.self.now in
+    let all = c.args.records.now in
+    let end = c.args.end in
+    let first = store.state c.loop-record.self in
+    let second = store.state c.if-lt.self in
+    let works = c.loop-record.invariant.works in
+    let target = c.cut-target.result in
+    let first_is = all_applied s first c.applied.result end all c.loop-record.record-index c.loop-record.invariant.lies c.loop-record-test.false c.applied.ensures.value in
+    let at : target ≡ cut_at end c.args.upto = c.cut-target.ensures in
+    let moved : (second ≡ after_calls first (advance_calls first.applied target)) × Works store.state store.is_failed store.MayLeave c.if-lt.self = elim c.if-lt.branch [
+      | then-lt+in_ok-advance w ↦
+          let below : first.applied < target = search rules in (
+            ap store.state w.self-is ∙ advance_made first (store.state w.advance.new.self) target below w.in_ok-advance.ensures.writes.ok,
+            subst (Works store.state store.is_failed store.MayLeave) (sym w.self-is)
+                (works_after store.state store.is_failed store.MayLeave c.loop-record.self w.advance.new.self (advanced first target) w.advance.result w.in_ok-advance.field-0 w.in_ok-advance.was works w.advance.ensures.writes),
+          )
+      | else-lt w ↦
+          let reached : target ≤ first.applied = search rules in
+          (ap store.state w.self-is ∙ advance_none first target reached, subst (Works store.state store.is_failed store.MayLeave) (sym w.self-is) works)
+    ] in
+    let second_is = moved.0 ∙ ap (λ (n : ℕ). after_calls first (advance_calls first.applied n)) at in
+    let through = c.min-through.result in
+    let is : through ≡ min c.args.known second.applied = search rules in
+    let there : through ≤ second.floor = search rules in
+    takes_all store.state store.is_failed store.MayLeave c.args.self.now c.if-lt.self (take_calls s end all c.args.upto c.args.known) tt (sym c.is_failed.ensures.answer ∙ c.if-is_failed.false) moved.1
+    (ends s end all c.args.upto c.args.known first second second first_is second_is (forget_none second through there ∙ ap (λ (n : ℕ). after_calls second (forget_calls second.floor n)) is))
