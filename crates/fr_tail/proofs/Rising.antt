@@ -5,7 +5,7 @@ use Rattle.std.specs.List.{AllByRecursion, list_all}
 use Rattle.std.proofs.lemmas.Bool.{and_from, and_parts, cases_lt, cases_order, eq-eqb, eqb-true, le-leb, leb-true, le-ltb, lt-ltb, ltb-true, ne_eqb}
 use Rattle.fr_mutation.specs.declared.versioned.VersionedBatch.{VersionedBatch}
 use Rattle.fr_log.specs.declared.records.SeedRecord.{SeedRecord}
-use Rattle.fr_log.specs.Peeked as peek
+use Rattle.fr_mutation.specs.Versioned.{is_rising_from}
 use Rattle.fr_log.specs.Seed as seed
 use Rattle.fr_tail.specs.Tail.{is_before, placed, in_order}
 
@@ -21,13 +21,13 @@ abbrev pub Through : ℕ → List VersionedBatch → Type 0
 Through last [] = Unit {0}
 Through last (r ∷ rs) = (r.version ≤ last) × Through last rs
 
-pub rises_from_test : (least : ℕ) (rs : List VersionedBatch) → peek.is_rising_from least rs ≡ true → Rises least rs
+pub rises_from_test : (least : ℕ) (rs : List VersionedBatch) → is_rising_from least rs ≡ true → Rises least rs
 rises_from_test least [] e = tt
-rises_from_test least (r ∷ rs) e = let p = and_parts (nat_le least r.version) (peek.is_rising_from (r.version + 1) rs) e in (leb-true least r.version p.0, rises_from_test (r.version + 1) rs p.1)
+rises_from_test least (r ∷ rs) e = let p = and_parts (nat_le least r.version) (is_rising_from (r.version + 1) rs) e in (leb-true least r.version p.0, rises_from_test (r.version + 1) rs p.1)
 
-pub rises_test : (least : ℕ) (rs : List VersionedBatch) → Rises least rs → peek.is_rising_from least rs ≡ true
+pub rises_test : (least : ℕ) (rs : List VersionedBatch) → Rises least rs → is_rising_from least rs ≡ true
 rises_test least [] h = refl
-rises_test least (r ∷ rs) (low, rest) = and_from (nat_le least r.version) (peek.is_rising_from (r.version + 1) rs) (le-leb least r.version low) (rises_test (r.version + 1) rs rest)
+rises_test least (r ∷ rs) (low, rest) = and_from (nat_le least r.version) (is_rising_from (r.version + 1) rs) (le-leb least r.version low) (rises_test (r.version + 1) rs rest)
 
 pub through_from_test : (last : ℕ) (rs : List VersionedBatch) → list_all (λ r. nat_le r.version last) rs ≡ true → Through last rs
 through_from_test last [] e = tt

@@ -9,7 +9,7 @@ use Rattle.fr_storage.proofs.Pulls.{rise, whole_taken, trouble_taken}
 use Rattle.fr_storage.proofs.storage.peeked.pull.Goals as goal
 
 pub take-requires : goal.take-requires
-take-requires g c = rw c.records.ensures.value (rise c.args.peeked.now c.records.ensures.sound)
+take-requires g c = rw c.records.ensures.value (record { rise = rise c.args.peeked.now c.records.ensures.sound })
 
 pub returns-clause-ok : goal.returns-clause-ok
 returns-clause-ok g c =
