@@ -4,6 +4,7 @@ use Rattle.sqlite.specs.Effect.{Database}
 use Rattle.sqlite.specs.Held.{state}
 use Rattle.fr_undo.specs.State.{StoreState}
 use Rattle.fr_undo.specs.Pull.{is_nothing, take_calls}
+use Rattle.fr_sql_calls.specs.declared.work.Work.{Work}
 use Rattle.fr_sql_calls.specs.Work.{Fits}
 use Rattle.fr_sql_calls.specs.Tables.{state_in}
 use Rattle.fr_sql_calls.specs.Calls.{LeadsTo, taken, work_of}
@@ -66,21 +67,23 @@ returns-in-Ok-clause-makes g c =
     let looks = c.in_ok-net.ensures.looks in
     let same = (kept a b c.in_ok-net.net looks).now in
     let after = taken (state_in a.now.trees) c.args.end c.args.records.now c.args.upto c.args.known in
-    let leads = rw c.work_of.ensures (subst (λ (d : Database). LeadsTo (work_of c.in_ok-net.net) d after) (sym same) c.in_ok-net.ensures.leads) in
+    let planned : LeadsTo (work_of c.in_ok-net.net) b.now after = subst (λ (d : Database). LeadsTo (work_of c.in_ok-net.net) d after) (sym same) c.in_ok-net.ensures.leads in
+    let leads : LeadsTo c.work_of.result b.now after = subst (λ (w : Work). LeadsTo w b.now after) (sym c.work_of.ensures) planned in
     looked_then a b (state g.S.Store c.write.new.conn) c.in_ok-net.net after _ looks (c.in-Ok.ensures.makes after leads)
 
-pub returns-in-Err-clause-makes : goal.returns-in-Err-clause-makes
-returns-in-Err-clause-makes g c =
+pub returns-clause-makes : goal.returns-clause-makes
+returns-clause-makes g c =
     let a = state g.S.Store c.args.conn.now in
     let b = state g.S.Store c.net_read.new.conn in
     let looks = c.in_ok-net.ensures.looks in
     let same = (kept a b c.in_ok-net.net looks).now in
     let after = taken (state_in a.now.trees) c.args.end c.args.records.now c.args.upto c.args.known in
-    let leads = rw c.work_of.ensures (subst (λ (d : Database). LeadsTo (work_of c.in_ok-net.net) d after) (sym same) c.in_ok-net.ensures.leads) in
+    let planned : LeadsTo (work_of c.in_ok-net.net) b.now after = subst (λ (d : Database). LeadsTo (work_of c.in_ok-net.net) d after) (sym same) c.in_ok-net.ensures.leads in
+    let leads : LeadsTo c.work_of.result b.now after = subst (λ (w : Work). LeadsTo w b.now after) (sym c.work_of.ensures) planned in
     looked_then a b (state g.S.Store c.write.new.conn) c.in_ok-net.net after _ looks (c.in-Err.ensures.makes after leads)
 
-pub returns-in-Err-clause-idle : goal.returns-in-Err-clause-idle
-returns-in-Err-clause-idle g c none =
+pub returns-clause-idle : goal.returns-clause-idle
+returns-clause-idle g c none =
     let a = state g.S.Store c.args.conn.now in
     let s = c.requires.stands in
     let marks = c.args.marks.now in
