@@ -5,13 +5,14 @@ use Rattle.std.specs.List.{list_all, filter_map}
 use Rattle.std.specs.Option.{option_map}
 use Rattle.std.proofs.lemmas.Bool.{and_parts, and_from, or_cases, ltb-true, leb-true, eqb-true, le-leb, cases_lt}
 use Rattle.fr_mutation.specs.declared.mutation.Mutation.{Mutation}
+use Rattle.fr_mutation.specs.declared.versioned.VersionedBatch.{VersionedBatch}
+use Rattle.fr_mutation.specs.Versioned.{is_rising_from}
 use Rattle.fr_log.specs.declared.records.SeedRecord.{SeedRecord}
-use Rattle.fr_log.specs.declared.records.PeekedRecord.{PeekedRecord}
 use Rattle.fr_log.specs.Fields.{two, three}
 use Rattle.fr_log.specs.Seed as seed
 use Rattle.fr_log.specs.Seed.{SeedContent, is_within}
 use Rattle.fr_log.specs.Push.{PushContent}
-use Rattle.fr_log.specs.Peeked.{is_rising_from, IsPeeked}
+use Rattle.fr_log.specs.Peeked.{IsPeeked}
 use Rattle.fr_log.specs.LogState.{LogState, headers, durable_of, known_of, seeded_to_of, seed_records_of, records_of}
 use Rattle.fr_tags.specs.Bodies.{batch_of}
 use Rattle.fr_log.specs.Search.{seeded_records, pushed_records}
@@ -20,54 +21,54 @@ use Rattle.fr_log.specs.Step.{peek_of, records_above, upto_of}
 use Rattle.fr_log.proofs.Chains.{reach, reach_above}
 
 -- versions rise strictly, and none is below this one
-abbrev pub Rises : ℕ → List PeekedRecord → Type 0
+abbrev pub Rises : ℕ → List VersionedBatch → Type 0
 Rises least [] = Unit {0}
 Rises least (r ∷ rs) = (least ≤ r.version) × Rises (r.version + 1) rs
 
 -- no version is above this one
-abbrev pub Through : ℕ → List PeekedRecord → Type 0
+abbrev pub Through : ℕ → List VersionedBatch → Type 0
 Through last [] = Unit {0}
 Through last (r ∷ rs) = (r.version ≤ last) × Through last rs
 
-pub rises_test : (least : ℕ) (rs : List PeekedRecord) → Rises least rs → is_rising_from least rs ≡ true
+pub rises_test : (least : ℕ) (rs : List VersionedBatch) → Rises least rs → is_rising_from least rs ≡ true
 rises_test least [] h = refl
 rises_test least (r ∷ rs) (low, rest) = and_from (nat_le least r.version) (is_rising_from (r.version + 1) rs) (le-leb least r.version low) (rises_test (r.version + 1) rs rest)
 
-pub through_test : (last : ℕ) (rs : List PeekedRecord) → Through last rs → list_all (λ r. nat_le r.version last) rs ≡ true
+pub through_test : (last : ℕ) (rs : List VersionedBatch) → Through last rs → list_all (λ r. nat_le r.version last) rs ≡ true
 through_test last [] h = refl
 through_test last (r ∷ rs) (low, rest) = and_from (nat_le r.version last) (list_all (λ s. nat_le s.version last) rs) (le-leb r.version last low) (through_test last rs rest)
 
-pub rises_lower : (low least : ℕ) (rs : List PeekedRecord) → low ≤ least → Rises least rs → Rises low rs
+pub rises_lower : (low least : ℕ) (rs : List VersionedBatch) → low ≤ least → Rises least rs → Rises low rs
 rises_lower low least [] le h = tt
 rises_lower low least (r ∷ rs) le (here, rest) = (omega arith, rest)
 
-pub through_higher : (last high : ℕ) (rs : List PeekedRecord) → last ≤ high → Through last rs → Through high rs
+pub through_higher : (last high : ℕ) (rs : List VersionedBatch) → last ≤ high → Through last rs → Through high rs
 through_higher last high [] le h = tt
 through_higher last high (r ∷ rs) le (here, rest) = (omega arith, through_higher last high rs le rest)
 
-pub rises_append : (least last : ℕ) (rs ss : List PeekedRecord) → least ≤ last + 1 → Rises least rs → Through last rs → Rises (last + 1) ss → Rises least (rs ++ ss)
+pub rises_append : (least last : ℕ) (rs ss : List VersionedBatch) → least ≤ last + 1 → Rises least rs → Through last rs → Rises (last + 1) ss → Rises least (rs ++ ss)
 rises_append least last [] ss le h t more = rises_lower least (last + 1) ss le more
 rises_append least last (r ∷ rs) ss le (here, rest) (below, others) more = (here, rises_append (r.version + 1) last rs ss (omega arith) rest others more)
 
-pub through_append : (last : ℕ) (rs ss : List PeekedRecord) → Through last rs → Through last ss → Through last (rs ++ ss)
+pub through_append : (last : ℕ) (rs ss : List VersionedBatch) → Through last rs → Through last ss → Through last (rs ++ ss)
 through_append last [] ss h more = more
 through_append last (r ∷ rs) ss (here, rest) more = (here, through_append last rs ss rest more)
 
-pub rises_take : (least n : ℕ) (rs : List PeekedRecord) → Rises least rs → Rises least (take n rs)
+pub rises_take : (least n : ℕ) (rs : List VersionedBatch) → Rises least rs → Rises least (take n rs)
 rises_take least zero rs h = tt
 rises_take least (suc n) [] h = tt
 rises_take least (suc n) (r ∷ rs) (here, rest) = (here, rises_take (r.version + 1) n rs rest)
 
-pub through_take : (last n : ℕ) (rs : List PeekedRecord) → Through last rs → Through last (take n rs)
+pub through_take : (last n : ℕ) (rs : List VersionedBatch) → Through last rs → Through last (take n rs)
 through_take last zero rs h = tt
 through_take last (suc n) [] h = tt
 through_take last (suc n) (r ∷ rs) (here, rest) = (here, through_take last n rs rest)
 
 -- those above a number
-abbrev pub above : ℕ → List PeekedRecord → List PeekedRecord
+abbrev pub above : ℕ → List VersionedBatch → List VersionedBatch
 above after rs = filter (λ r. nat_lt after r.version) rs
 
-pub rises_above : (after low least : ℕ) (rs : List PeekedRecord) → ((v : ℕ) → least ≤ v → after < v → low ≤ v) → Rises least rs → Rises low (above after rs)
+pub rises_above : (after low least : ℕ) (rs : List VersionedBatch) → ((v : ℕ) → least ≤ v → after < v → low ≤ v) → Rises least rs → Rises low (above after rs)
 rises_above after low least [] from h = tt
 rises_above after low least (r ∷ rs) from (here, rest) = go (nat_lt after r.version) refl (rises_above after (r.version + 1) (r.version + 1) rs (λ v le less. le) rest) (rises_above after low (r.version + 1) rs (λ v le less. from v (omega arith) less) rest)
   where
@@ -75,7 +76,7 @@ rises_above after low least (r ∷ rs) from (here, rest) = go (nat_lt after r.ve
     go true e taken left = rw e (from r.version here (ltb-true after r.version e), taken)
     go false e taken left = rw e left
 
-pub through_above : (after last : ℕ) (rs : List PeekedRecord) → Through last rs → Through last (above after rs)
+pub through_above : (after last : ℕ) (rs : List VersionedBatch) → Through last rs → Through last (above after rs)
 through_above after last [] h = tt
 through_above after last (r ∷ rs) (here, rest) = go (nat_lt after r.version) refl (through_above after last rs rest)
   where
@@ -84,14 +85,14 @@ through_above after last (r ∷ rs) (here, rest) = go (nat_lt after r.version) r
     go false e others = rw e others
 
 -- the version of the last of rising records is the greatest
-abbrev pub last_of : ℕ → List PeekedRecord → ℕ
+abbrev pub last_of : ℕ → List VersionedBatch → ℕ
 last_of version rs = fold (λ v r. r.version) version rs
 
-pub last_above : (version : ℕ) (rs : List PeekedRecord) → Rises (version + 1) rs → version ≤ last_of version rs
+pub last_above : (version : ℕ) (rs : List VersionedBatch) → Rises (version + 1) rs → version ≤ last_of version rs
 last_above version [] h = omega arith
 last_above version (r ∷ rs) (here, rest) = let k = last_above r.version rs rest in omega arith
 
-pub through_last : (version least : ℕ) (rs : List PeekedRecord) → Rises least rs → Through (last_of version rs) rs
+pub through_last : (version least : ℕ) (rs : List VersionedBatch) → Rises least rs → Through (last_of version rs) rs
 through_last version least [] h = tt
 through_last version least (r ∷ rs) (here, rest) = (last_above r.version rs rest, through_last r.version (r.version + 1) rs rest)
 
@@ -181,7 +182,7 @@ records_through l tag h =
     (through_higher (seeded_to_of l.seed) (durable_of l) (seeded_records tag (seed_records_of l.seed)) (reach_above (seeded_to_of l.seed) l.pushes) (own_through _ _ tag l.seed h.own_seed))
     (push_through tag (seeded_to_of l.seed) l.pushes)
 
-pub upto_through : (most durable least : ℕ) (rs : List PeekedRecord) → Rises least rs → Through durable rs → Through (upto_of most rs durable) (take most rs)
+pub upto_through : (most durable least : ℕ) (rs : List VersionedBatch) → Rises least rs → Through durable rs → Through (upto_of most rs durable) (take most rs)
 upto_through most durable least rs rises through = go (nat_lt most (length rs)) refl
   where
     go : (s : Bool) → nat_lt most (length rs) ≡ s → Through (upto_of most rs durable) (take most rs)
@@ -222,7 +223,7 @@ pushes_above tag after (p ∷ ps) = go (batch_of tag p.bodies) (nat_lt after p.v
     go None true e d more = rw (e, d) (rw e more)
     go None false e d more = rw (e, d) more
 
-above-append : (after : ℕ) (rs ss : List PeekedRecord) → above after (rs ++ ss) ≡ above after rs ++ above after ss
+above-append : (after : ℕ) (rs ss : List VersionedBatch) → above after (rs ++ ss) ≡ above after rs ++ above after ss
 above-append after rs ss = Rattle.std.proofs.lemmas.List.Elements.filter-append (λ r. nat_lt after r.version) rs ss
 
 pub above_split : (l : LogState) (tag after : ℕ)
@@ -233,7 +234,7 @@ above_split l tag after =
     sym (above-append after (seeded_records tag (seed_records_of l.seed)) (pushed_records tag l.pushes) ∙ ap (λ xs. xs ++ above after (pushed_records tag l.pushes)) s ∙ ap (λ ys. seeded_records tag (filter (λ r. nat_lt after r.version) (seed_records_of l.seed)) ++ ys) p)
 
 -- what is gathered from there is what a peek gives
-pub peeked_is : (l : LogState) (tag after most limit durable known upto : ℕ) (records : List SeedRecord) (ps pushes : List PushContent) (given : List PeekedRecord) (more : Bool)
+pub peeked_is : (l : LogState) (tag after most limit durable known upto : ℕ) (records : List SeedRecord) (ps pushes : List PushContent) (given : List VersionedBatch) (more : Bool)
     → records ≡ filter (λ r. nat_lt after r.version) (seed_records_of l.seed) → ps ≡ l.pushes → pushes ≡ filter (λ p. nat_lt after p.version) ps → limit ≡ most
     → given ≡ take limit (seeded_records tag records ++ pushed_records tag pushes) → more ≡ nat_lt limit (length (seeded_records tag records ++ pushed_records tag pushes))
     → upto ≡ cond more (last_of durable given) durable → durable ≡ durable_of l → known ≡ known_of l
@@ -242,7 +243,7 @@ peeked_is l tag after most limit durable known upto records ps pushes given more
     let all : seeded_records tag records ++ pushed_records tag pushes ≡ records_above l tag after =
     two (λ (x : List SeedRecord) (y : List PushContent). seeded_records tag x ++ pushed_records tag y) seeds (pushed ∙ ap (filter (λ p. nat_lt after p.version)) held) ∙ above_split l tag after
     in
-    let first : given ≡ take most (records_above l tag after) = are ∙ two (λ (n : ℕ) (xs : List PeekedRecord). take n xs) limited all in
-    let left : more ≡ nat_lt most (length (records_above l tag after)) = remain ∙ two (λ (n : ℕ) (xs : List PeekedRecord). nat_lt n (length xs)) limited all in
-    three (λ (rs : List PeekedRecord) (u k : ℕ). record { tag = tag; after = after; records = rs; upto = u; known = k }) first
-    (through ∙ three (λ (b : Bool) (xs : List PeekedRecord) (d : ℕ). cond b (last_of d xs) d) left first reach) knows
+    let first : given ≡ take most (records_above l tag after) = are ∙ two (λ (n : ℕ) (xs : List VersionedBatch). take n xs) limited all in
+    let left : more ≡ nat_lt most (length (records_above l tag after)) = remain ∙ two (λ (n : ℕ) (xs : List VersionedBatch). nat_lt n (length xs)) limited all in
+    three (λ (rs : List VersionedBatch) (u k : ℕ). record { tag = tag; after = after; records = rs; upto = u; known = k }) first
+    (through ∙ three (λ (b : Bool) (xs : List VersionedBatch) (d : ℕ). cond b (last_of d xs) d) left first reach) knows

@@ -6,6 +6,7 @@ use Rattle.std.specs.Option.{option_map, option_map_or}
 use Rattle.std.proofs.lemmas.Bool.{ltb-true, ltb-false, le-ltb, le-leb, lt-leb, not-false, or_right, eqb-true}
 use Rattle.std.proofs.lemmas.List.{take_all}
 use Rattle.std.proofs.lemmas.List.Folds.{list_any-append}
+use Rattle.fr_mutation.specs.declared.versioned.VersionedBatch.{VersionedBatch}
 use Rattle.fr_state.specs.Generations.{CoordinatedState}
 use Rattle.fr_log.specs.declared.ask.LogAsk.{LogAsk}
 use Rattle.fr_log.specs.declared.ask.LogAsk.TheVariants.{Seed, Push, Lock, Peek, MarkAsked, Pop}
@@ -14,7 +15,6 @@ use Rattle.fr_log.specs.declared.ask.LogRefusal.{LogRefusal}
 use Rattle.fr_log.specs.declared.ask.LogRefusal.TheVariants.{WrongEpoch, Unseeded, NotMine, TooEarly, Removed}
 use Rattle.fr_log.specs.Left.{popped_of, popped_at, left_push, left_seed}
 use Rattle.fr_log.specs.SweptLaws.{raised_here, granted_from}
-use Rattle.fr_log.specs.declared.records.PeekedRecord.{PeekedRecord}
 use Rattle.fr_log.specs.Seed.{SeedContent, is_same_seed, is_same_seed-IsSameness}
 use Rattle.fr_log.specs.Push.{PushContent, is_one_push, is_one_push-itself, is_one_push-parts}
 use Rattle.fr_log.specs.LogState.{LogState, holds, first_of, durable_of, records_of, is_push_held, mark_among}
@@ -197,25 +197,25 @@ same_seed_is_same s t = (is_same_seed-IsSameness.same s t, λ e. subst (λ x. is
 -- ---- peeks
 
 -- those at most a number
-abbrev below : ℕ → List PeekedRecord → List PeekedRecord
+abbrev below : ℕ → List VersionedBatch → List VersionedBatch
 below upto rs = filter (λ r. nat_le r.version upto) rs
 
-below_all : (upto : ℕ) (rs : List PeekedRecord) → Through upto rs → below upto rs ≡ rs
+below_all : (upto : ℕ) (rs : List VersionedBatch) → Through upto rs → below upto rs ≡ rs
 below_all upto [] h = refl
 below_all upto (r ∷ rs) (here, rest) = rw (le-leb r.version upto here) (ap (λ xs. r ∷ xs) (below_all upto rs rest))
 
-below_none : (upto least : ℕ) (rs : List PeekedRecord) → upto < least → Rises least rs → below upto rs ≡ []
+below_none : (upto least : ℕ) (rs : List VersionedBatch) → upto < least → Rises least rs → below upto rs ≡ []
 below_none upto least [] less h = refl
 below_none upto least (r ∷ rs) less (here, rest) = rw (lt-leb r.version upto (omega arith)) (below_none upto (r.version + 1) rs (omega arith) rest)
 
-below_first : (n least otherwise : ℕ) (rs : List PeekedRecord) → suc n < length rs → Rises least rs → below (last_of otherwise (take (suc n) rs)) rs ≡ take (suc n) rs
+below_first : (n least otherwise : ℕ) (rs : List VersionedBatch) → suc n < length rs → Rises least rs → below (last_of otherwise (take (suc n) rs)) rs ≡ take (suc n) rs
 below_first n least otherwise [] short h = absurd (omega arith)
 below_first zero least otherwise (r ∷ rs) short (here, rest) = rw (le-leb r.version r.version (omega arith)) (ap (λ xs. r ∷ xs) (below_none r.version (r.version + 1) rs (omega arith) rest))
 below_first (suc n) least otherwise (r ∷ rs) short (here, rest) =
     let up = last_above r.version (take (suc n) rs) (rises_take (r.version + 1) (suc n) rs rest) in
     rw (le-leb r.version (last_of r.version (take (suc n) rs)) up) (ap (λ xs. r ∷ xs) (below_first n (r.version + 1) r.version rs (omega arith) rest))
 
-both_filters : (after upto : ℕ) (rs : List PeekedRecord) → filter (λ r. nat_lt after r.version && nat_le r.version upto) rs ≡ below upto (above after rs)
+both_filters : (after upto : ℕ) (rs : List VersionedBatch) → filter (λ r. nat_lt after r.version && nat_le r.version upto) rs ≡ below upto (above after rs)
 both_filters after upto [] = refl
 both_filters after upto (r ∷ rs) = go (nat_lt after r.version) refl (both_filters after upto rs)
   where
@@ -224,7 +224,7 @@ both_filters after upto (r ∷ rs) = go (nat_lt after r.version) refl (both_filt
     go true e more = rw e (ap (λ xs. cond (nat_le r.version upto) (r ∷ xs) xs) more)
     go false e more = rw e more
 
-upto_whole : (most durable least : ℕ) (rs : List PeekedRecord) → 1 ≤ most → Rises least rs → Through durable rs → take most rs ≡ below (upto_of most rs durable) rs
+upto_whole : (most durable least : ℕ) (rs : List VersionedBatch) → 1 ≤ most → Rises least rs → Through durable rs → take most rs ≡ below (upto_of most rs durable) rs
 upto_whole zero durable least rs some rises through = absurd (omega arith)
 upto_whole (suc n) durable least rs some rises through = go (nat_lt (suc n) (length rs)) refl
   where
@@ -239,15 +239,15 @@ peek_is_whole l tag after most h some =
     upto_whole most (durable_of l) (after + 1) (records_above l tag after) some rises through ∙ sym (both_filters after (upto_of most (records_above l tag after) (durable_of l)) (records_of l tag))
 
 -- the version through which a first part of rising records is complete
-upto_goes_on : (most durable after : ℕ) (rs : List PeekedRecord) → 1 ≤ most → Rises (after + 1) rs → Through durable rs → (upto_of most rs durable ≤ durable) × ((after < upto_of most rs durable) ⊎ (upto_of most rs durable ≡ durable))
+upto_goes_on : (most durable after : ℕ) (rs : List VersionedBatch) → 1 ≤ most → Rises (after + 1) rs → Through durable rs → (upto_of most rs durable ≤ durable) × ((after < upto_of most rs durable) ⊎ (upto_of most rs durable ≡ durable))
 upto_goes_on most durable after rs some rises through = go (nat_lt most (length rs)) refl
   where
-    last_low : (version : ℕ) (n : ℕ) (xs : List PeekedRecord) → version ≤ durable → Through durable xs → last_of version (take n xs) ≤ durable
+    last_low : (version : ℕ) (n : ℕ) (xs : List VersionedBatch) → version ≤ durable → Through durable xs → last_of version (take n xs) ≤ durable
     last_low version zero xs low t = low
     last_low version (suc n) [] low t = low
     last_low version (suc n) (x ∷ xs) low (here, rest) = last_low x.version n xs here rest
 
-    high : (n : ℕ) (xs : List PeekedRecord) → 1 ≤ n → n < length xs → Rises (after + 1) xs → after < last_of durable (take n xs)
+    high : (n : ℕ) (xs : List VersionedBatch) → 1 ≤ n → n < length xs → Rises (after + 1) xs → after < last_of durable (take n xs)
     high zero xs one less r = absurd (omega arith)
     high (suc n) [] one less r = absurd (omega arith)
     high (suc n) (x ∷ xs) one less (here, rest) = let k = last_above x.version (take n xs) (rises_take (x.version + 1) n xs rest) in omega arith

@@ -1,6 +1,7 @@
 -- What is true of every log, over one ask and over every list of asks.
 use Rattle.std.specs.Prelude.{◌≡◌, ◌≢◌, ℕ, ◌-◌, ◌<◌, ◌≤◌, ◌↔◌, ◌⊎◌, Bool, true, false, ◌&&◌, not, nat_le, nat_lt, List, [], ◌∷◌, ◌++◌, Option, None, Some, fold, max, filter, is_none, IsTrue, IsSome, All}
 use Rattle.std.specs.List.{list_all}
+use Rattle.fr_mutation.specs.Versioned.{is_rising_from}
 use Rattle.fr_log.specs.declared.ask.LogAsk.{LogAsk}
 use Rattle.fr_log.specs.declared.ask.LogAsk.TheVariants.{Seed, Push, Lock, Peek, MarkAsked, Pop}
 use Rattle.fr_log.specs.declared.ask.LogTell.{LogTell}
@@ -9,7 +10,6 @@ use Rattle.fr_log.specs.declared.ask.LogRefusal.{LogRefusal}
 use Rattle.fr_log.specs.declared.ask.LogRefusal.TheVariants.{Removed}
 use Rattle.fr_log.specs.Seed.{SeedContent, IsSeed, is_same_seed}
 use Rattle.fr_log.specs.Push.{PushContent, IsPush, is_one_push, AreOnePush}
-use Rattle.fr_log.specs.Peeked.{is_rising_from}
 use Rattle.fr_log.specs.LogState.{LogState, Header, swept, holds, first_of, seeded_to_of, durable_of, known_of, headers_of, records_of, is_push_held}
 use Rattle.fr_log.specs.Chain.{IsLog}
 use Rattle.fr_log.specs.Refusal.{push_refusal}

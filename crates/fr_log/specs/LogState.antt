@@ -2,11 +2,11 @@
 use Rattle.std.specs.Prelude.{ℕ, ◌-◌, Bool, false, ◌==◌, List, [], ◌∷◌, ◌++◌, map, fold, max, Option, None, Some, if◌then◌else◌}
 use Rattle.std.specs.List.{list_any, filter_map}
 use Rattle.std.specs.Option.{option_map}
+use Rattle.fr_mutation.specs.declared.versioned.VersionedBatch.{VersionedBatch}
 use Rattle.fr_tags.specs.Bodies.{batch_of}
 use Rattle.fr_tags.specs.Placement.{is_held}
 use Rattle.fr_state.specs.Generations.{CoordinatedState}
 use Rattle.fr_log.specs.declared.records.SeedRecord.{SeedRecord}
-use Rattle.fr_log.specs.declared.records.PeekedRecord.{PeekedRecord}
 use Rattle.fr_log.specs.Seed.{SeedContent}
 use Rattle.fr_log.specs.Push.{PushContent, is_one_push}
 use Rattle.fr_log.specs.declared.popped.PoppedTag.{PoppedTag}
@@ -71,15 +71,15 @@ mark_among [] = None
 mark_among (p ∷ ps) = p.mark
 
 -- the record of a tag that a seed's record is, if it is of that tag
-abbrev pub seeded_record : ℕ → SeedRecord → Option PeekedRecord
+abbrev pub seeded_record : ℕ → SeedRecord → Option VersionedBatch
 seeded_record tag r = if r.tag == tag then Some (record { version = r.version; batch = r.batch }) else None
 
 -- the record of a tag that a push has, if it has a body of that tag
-abbrev pub pushed_record : ℕ → PushContent → Option PeekedRecord
+abbrev pub pushed_record : ℕ → PushContent → Option VersionedBatch
 pushed_record tag p = option_map (λ batch. record { version = p.version; batch = batch }) (batch_of tag p.bodies)
 
 -- the records of a tag: those of the seed, and then those of the pushes
-abbrev pub records_of : LogState → ℕ → List PeekedRecord
+abbrev pub records_of : LogState → ℕ → List VersionedBatch
 records_of l tag = filter_map (seeded_record tag) (seed_records_of l.seed) ++ filter_map (pushed_record tag) l.pushes
 
 -- a push but for its bodies

@@ -1,25 +1,21 @@
 -- What a log gives of one tag.
-use Rattle.std.specs.Prelude.{◌≡◌, ℕ, ◌+◌, ◌≤◌, Bool, true, nat_le, ◌==◌, ◌&&◌, List, [], ◌∷◌, length, IsTrue, refl}
+use Rattle.std.specs.Prelude.{◌≡◌, ℕ, ◌+◌, ◌≤◌, Bool, true, nat_le, ◌==◌, ◌&&◌, List, length, IsTrue, refl}
 use Rattle.std.specs.List.{list_all}
 use Rattle.std.specs.Cmp.Lexicographic.{pointwise}
 use Rattle.std.proofs.lemmas.Bool.{and_parts, eq-eqb, eqb-true}
 use Rattle.fr_base.specs.Same.{IsSameness, pointwise-IsSameness}
+use Rattle.fr_mutation.specs.declared.versioned.VersionedBatch.{VersionedBatch}
+use Rattle.fr_mutation.specs.Versioned.{is_rising_from}
 use Rattle.fr_log.specs.Fields.{five}
-use Rattle.fr_log.specs.declared.records.PeekedRecord.{PeekedRecord}
 use Rattle.fr_log.specs.Records.{is_same_peeked_record, is_same_peeked_record-IsSameness}
 
 -- the tag's records above `after`, complete through `upto`, and the greatest version that the log knows to be committed
 pub record PeekedContent : Type 0 where
   pub tag : ℕ
   pub after : ℕ
-  pub records : List PeekedRecord
+  pub records : List VersionedBatch
   pub upto : ℕ
   pub known : ℕ
-
--- whether the versions of records rise strictly, and none is below this one
-abbrev pub is_rising_from : ℕ → List PeekedRecord → Bool
-is_rising_from version [] = true
-is_rising_from version (r ∷ rs) = nat_le version r.version && is_rising_from (r.version + 1) rs
 
 -- the limits of an answer to a peek
 pub record IsPeeked (p : PeekedContent) : Type 0 where

@@ -3,9 +3,9 @@ use Rattle.std.specs.Prelude.{◌≡◌, ℕ, ◌+◌, ◌<◌, ◌≤◌, Bool,
 use Rattle.std.specs.List.{filter_map, AllByRecursion}
 use Rattle.std.specs.Option.{option_map}
 use Rattle.fr_mutation.specs.declared.mutation.Mutation.{Mutation}
+use Rattle.fr_mutation.specs.declared.versioned.VersionedBatch.{VersionedBatch}
 use Rattle.fr_tags.specs.declared.body.Body.{Body}
 use Rattle.fr_tags.specs.Bodies.{batch_of}
-use Rattle.fr_log.specs.declared.records.PeekedRecord.{PeekedRecord}
 use Rattle.fr_log.specs.declared.pushes.header.PushHeader.{PushHeader}
 use Rattle.fr_log.specs.declared.pushes.header.PushNumbers.{PushNumbers}
 use Rattle.fr_log.specs.Push.{PushContent, is_same_mark}
@@ -20,7 +20,7 @@ batch_at version [] = None
 batch_at version (e ∷ es) = if e.0 == version then Some e.1 else batch_at version es
 
 -- the record that a peek gives of a batch
-abbrev pub as_record : Shelved → PeekedRecord
+abbrev pub as_record : Shelved → VersionedBatch
 as_record e = record { version = e.0; batch = e.1 }
 
 -- the batch of a tag at a version, if the tag has one

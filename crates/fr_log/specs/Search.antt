@@ -1,8 +1,8 @@
 -- What is sought among pushes and records.
 use Rattle.std.specs.Prelude.{ℕ, Bool, List}
 use Rattle.std.specs.List.{list_any, filter_map}
+use Rattle.fr_mutation.specs.declared.versioned.VersionedBatch.{VersionedBatch}
 use Rattle.fr_log.specs.declared.records.SeedRecord.{SeedRecord}
-use Rattle.fr_log.specs.declared.records.PeekedRecord.{PeekedRecord}
 use Rattle.fr_log.specs.Push.{PushContent, is_one_push}
 use Rattle.fr_log.specs.declared.popped.PoppedTag.{PoppedTag}
 use Rattle.fr_log.specs.Left.{left_push}
@@ -13,9 +13,9 @@ abbrev pub is_found : List PoppedTag → PushContent → List PushContent → Bo
 is_found popped p ps = list_any (λ q. is_one_push (left_push popped p) (left_push popped q)) ps
 
 -- the records of a tag in a seed
-abbrev pub seeded_records : ℕ → List SeedRecord → List PeekedRecord
+abbrev pub seeded_records : ℕ → List SeedRecord → List VersionedBatch
 seeded_records tag rs = filter_map (seeded_record tag) rs
 
 -- the records of a tag in pushes
-abbrev pub pushed_records : ℕ → List PushContent → List PeekedRecord
+abbrev pub pushed_records : ℕ → List PushContent → List VersionedBatch
 pushed_records tag ps = filter_map (pushed_record tag) ps

@@ -1,8 +1,8 @@
 -- What a log answers, and what it is then.
 use Rattle.std.specs.Prelude.{ℕ, Bool, true, false, ◌==◌, ◌&&◌, not, min, max, nat_lt, List, [], ◌∷◌, ◌++◌, length, take, fold, filter, IsTrue, IsSome, is_some, is_none, Option, None, Some, if◌then◌else◌, ◌⊎◌}
 use Rattle.std.specs.Option.{option_map_or}
+use Rattle.fr_mutation.specs.declared.versioned.VersionedBatch.{VersionedBatch}
 use Rattle.fr_state.specs.Generations.{CoordinatedState}
-use Rattle.fr_log.specs.declared.records.PeekedRecord.{PeekedRecord}
 use Rattle.fr_log.specs.declared.ask.LogAsk.{LogAsk}
 use Rattle.fr_log.specs.declared.ask.LogAsk.TheVariants.{Seed, Push, Lock, Peek, MarkAsked, Pop}
 use Rattle.fr_log.specs.declared.ask.LogTell.{LogTell}
@@ -15,11 +15,11 @@ use Rattle.fr_log.specs.LogState.{LogState, durable_of, known_of, is_push_held, 
 use Rattle.fr_log.specs.Refusal.{refusal_of, pop_refusal}
 
 -- the records of a tag above a version
-abbrev pub records_above : LogState → ℕ → ℕ → List PeekedRecord
+abbrev pub records_above : LogState → ℕ → ℕ → List VersionedBatch
 records_above l tag after = filter (λ r. nat_lt after r.version) (records_of l tag)
 
 -- the version of the last of the first `most` records if more remain, else the version through which all is held
-abbrev pub upto_of : ℕ → List PeekedRecord → ℕ → ℕ
+abbrev pub upto_of : ℕ → List VersionedBatch → ℕ → ℕ
 upto_of most above durable = if nat_lt most (length above) then fold (λ version r. r.version) durable (take most above) else durable
 
 -- the first `most` records of a tag above a version

@@ -7,11 +7,11 @@ use Rattle.std.proofs.lemmas.Bool.{true≢false, eq-eqb, ne_eqb, eqb-true, ltb-t
 use Rattle.std.proofs.lemmas.List.{map-append}
 use Rattle.std.proofs.lemmas.List.Elements.{filter-append}
 use Rattle.fr_mutation.specs.declared.mutation.Mutation.{Mutation}
+use Rattle.fr_mutation.specs.declared.versioned.VersionedBatch.{VersionedBatch}
 use Rattle.fr_tags.specs.declared.body.Body.{Body}
 use Rattle.fr_tags.specs.Bodies.{batch_of}
 use Rattle.fr_log.specs.declared.popped.PoppedTag.{PoppedTag}
 use Rattle.fr_log.specs.declared.records.SeedRecord.{SeedRecord}
-use Rattle.fr_log.specs.declared.records.PeekedRecord.{PeekedRecord}
 use Rattle.fr_log.specs.declared.ask.LogAsk.{LogAsk}
 use Rattle.fr_log.specs.declared.ask.LogAsk.TheVariants.{Seed, Push, Lock, Peek, MarkAsked, Pop}
 use Rattle.fr_log.specs.declared.ask.LogRefusal.{LogRefusal}
@@ -201,7 +201,7 @@ body_left ps tag v (b ∷ bs) = go (body_left ps tag v bs) (nat_lt (popped_at ps
         let n : nat_lt (popped_at ps tag) v ≡ false = ap (λ t. nat_lt (popped_at ps t) v) (sym (eqb-true b.tag tag k)) ∙ e in
         rw e (rest ∙ rw n refl)
 
-as_pushed : ℕ → Option (List Mutation) → Option PeekedRecord
+as_pushed : ℕ → Option (List Mutation) → Option VersionedBatch
 as_pushed v o = option_map (λ batch. record { version = v; batch = batch }) o
 
 pushed_left : (ps : List PoppedTag) (tag : ℕ) (xs : List PushContent)
@@ -220,7 +220,7 @@ pushed_left ps tag (x ∷ xs) = go (pushed_left ps tag xs) (nat_lt (popped_at ps
 pub swept_records : (l : LogState) (tag : ℕ) → records_of (swept l) tag ≡ filter (λ r. nat_lt (popped_at l.popped tag) r.version) (records_of l tag)
 unfolding swept
 swept_records l tag =
-    two (λ (xs ys : List PeekedRecord). xs ++ ys) (ap (filter_map (seeded_record tag)) (records_same l.popped l.seed) ∙ seeded_left l.popped tag (seed_records_of l.seed)) (pushed_left l.popped tag l.pushes)
+    two (λ (xs ys : List VersionedBatch). xs ++ ys) (ap (filter_map (seeded_record tag)) (records_same l.popped l.seed) ∙ seeded_left l.popped tag (seed_records_of l.seed)) (pushed_left l.popped tag l.pushes)
     ∙ sym (filter-append (λ r. nat_lt (popped_at l.popped tag) r.version) (filter_map (seeded_record tag) (seed_records_of l.seed)) (filter_map (pushed_record tag) l.pushes))
 
 above_same : (l : LogState) (tag after : ℕ) → popped_at l.popped tag ≤ after → records_above (swept l) tag after ≡ records_above l tag after
@@ -248,7 +248,7 @@ granted_from l epoch tag after most e =
 
 peek_same : (l : LogState) (tag after most : ℕ) → popped_at l.popped tag ≤ after → peek_of (swept l) tag after most ≡ peek_of l tag after most
 peek_same l tag after most le =
-    three (λ (rs : List PeekedRecord) (durable known : ℕ).
+    three (λ (rs : List VersionedBatch) (durable known : ℕ).
     record { tag = tag; after = after; records = Rattle.std.specs.Prelude.take most rs; upto = upto_of most rs durable; known = known })
     (above_same l tag after le) (durable_same l) (known_same l)
 

@@ -3,7 +3,8 @@ ghost use Rattle.std.specs.Prelude.{◌≡◌, ◌+◌, ◌↔◌, nat_le, IsSom
 ghost use Rattle.std.specs.List.{list_all};
 ghost use Rattle.std.specs.Cmp.{partial_equiv_from_equiv};
 ghost use Rattle.fr_base.specs.Same.{IsSameness-equivalence};
-ghost use Rattle.fr_log.specs.Peeked.{IsPeeked, is_rising_from, is_same_peeked, is_same_peeked-IsSameness};
+ghost use Rattle.fr_mutation.specs.Versioned.{is_rising_from};
+ghost use Rattle.fr_log.specs.Peeked.{IsPeeked, is_same_peeked, is_same_peeked-IsSameness};
 
 use crate::records::PeekedRecord;
 use fr_base::{Memory, Tag, Version};

@@ -3,6 +3,8 @@ ghost use Rattle.std.specs.Prelude.{◌≡◌, IfOk};
 
 use fr_base::{Memory, Tag, Version};
 use fr_mutation::Batch;
+/// What a log gives of a peeked tag at one version.
+pub use fr_mutation::VersionedBatch as PeekedRecord;
 
 /// What a seed brings for one shard at one version.
 #[derive(Clone, Debug, Drop, PartialEq, Eq)]
@@ -13,22 +15,6 @@ pub struct SeedRecord {
 }
 
 impl SeedRecord {
-    /// An equal record. A batch that is shared stays so.
-    pub fn copy(&self) -> Result<Self, Memory>
-        ensures { IfOk result (λ copy. copy ≡ self.now) }
-    {
-        Ok(self.clone()?)
-    }
-}
-
-/// What a log gives of a peeked tag at one version.
-#[derive(Clone, Debug, Drop, PartialEq, Eq)]
-pub struct PeekedRecord {
-    pub version: Version,
-    pub batch: Batch,
-}
-
-impl PeekedRecord {
     /// An equal record. A batch that is shared stays so.
     pub fn copy(&self) -> Result<Self, Memory>
         ensures { IfOk result (λ copy. copy ≡ self.now) }

@@ -13,12 +13,13 @@ use Rattle.fr_node.specs.declared.turn.Hearing.{Hearing}
 use Rattle.fr_run.specs.Nodes.{calls_of_log}
 use Rattle.fr_run.specs.Run.{fault_of_log}
 use Rattle.fr_undo.specs.State.{IsStoreState}
+use Rattle.fr_undo.specs.Pull.{Call}
 use Rattle.fr_state.specs.Generations.{IsCoordinatedState}
 use Rattle.fr_state.specs.Same.{is_same_state}
 use Rattle.fr_state.specs.Spelling.{spelling}
 use Rattle.fr_storage.specs.declared.fault.StorageFault.{StorageFault}
 use Rattle.fr_storage.specs.Course.{IsReopened}
-use Rattle.fr_storage.specs.Storage.{StorageState, Call, target_of}
+use Rattle.fr_storage.specs.Storage.{StorageState, target_of}
 use Rattle.fr_run.specs.Told.{IsTold}
 
 -- the calls of a tell: one that is refused makes none

@@ -8,13 +8,13 @@ use Rattle.fr_mutation.specs.CodecReading.{decoded}
 use Rattle.fr_mutation.specs.CodecSpelling.{spelled}
 use Rattle.fr_mutation.specs.declared.codec.fault.DecodeFault.{DecodeFault}
 use Rattle.fr_mutation.specs.declared.mutation.Mutation.{Mutation}
+use Rattle.fr_mutation.specs.declared.versioned.VersionedBatch.{VersionedBatch}
 use Rattle.fr_register.specs.declared.ask.CellTell.{CellTell}
 use Rattle.fr_register.specs.declared.ask.CellTell.TheVariants as cell_tell
 use Rattle.fr_log.specs.declared.ask.LogTell.{LogTell}
 use Rattle.fr_log.specs.declared.ask.LogTell.TheVariants as log_tell
 use Rattle.fr_log.specs.Peeked.{PeekedContent}
 use Rattle.fr_log.specs.Push.{PushContent}
-use Rattle.fr_log.specs.declared.records.PeekedRecord.{PeekedRecord}
 use Rattle.fr_ask.specs.declared.tell.Tell.TheVariants as tell
 use Rattle.fr_part.specs.Made.{IsNoEpoch}
 use Rattle.fr_part.specs.declared.calls.logs.PeekNumbers.{PeekNumbers}
@@ -140,10 +140,10 @@ IsLogRefused s = IfLogTold s IfRefusal
 -- ---- what a log has of a tag
 
 -- a record: its version (8 bytes, the most significant first), its batch
-unfoldable pub spelled_record : PeekedRecord → List ℕ
+unfoldable pub spelled_record : VersionedBatch → List ℕ
 spelled_record r = to_be_bytes w64 r.version ++ spelled r.batch
 
-abbrev pub spelled_records : List PeekedRecord → List ℕ
+abbrev pub spelled_records : List VersionedBatch → List ℕ
 spelled_records records = flat_map spelled_record records
 
 abbrev pub IfPeeked : LogTell → (PeekedContent → Type 0) → Type 0

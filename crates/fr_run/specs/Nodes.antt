@@ -3,6 +3,7 @@ use Rattle.std.specs.Prelude.{ℕ, ◌+◌, ◌-◌, Bool, true, false, nat_lt, 
 use Rattle.std.specs.Option.{option_map}
 use Rattle.fr_base.specs.declared.place.NodeId.{NodeId}
 use Rattle.fr_base.specs.declared.place.NodeId.TheVariants as node
+use Rattle.fr_undo.specs.Pull.{Call}
 use Rattle.fr_register.specs.CellState.{CellState}
 use Rattle.fr_register.specs.History as register
 use Rattle.fr_state.specs.Generations.{LogGeneration}
@@ -17,7 +18,7 @@ use Rattle.fr_epoch.specs.Recoverer.{RecState, Plan, Phase, Reading, Locking, Co
 use Rattle.fr_epoch.specs.Hear as rec
 use Rattle.fr_storage.specs.Course as course
 use Rattle.fr_storage.specs.Storage as storage
-use Rattle.fr_storage.specs.Storage.{StorageState, Call}
+use Rattle.fr_storage.specs.Storage.{StorageState}
 use Rattle.fr_run.specs.Config.{Config, first_epoch, first_generation, first_cell, first_log, first_storage}
 use Rattle.fr_run.specs.Turn.{Turn, Begun, CellTurn, LogTurn, SeqTurn, Submitted, ProxyHeard, RecHeard, StorageHeard, Gone, Crashed, cell_turns}
 

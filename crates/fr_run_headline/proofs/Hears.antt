@@ -6,13 +6,14 @@ use Rattle.std.specs.Option.{option_map}
 use Rattle.std.proofs.lemmas.Bool.{cases_lt, eqb-true, eq-eqb, or_right}
 use Rattle.fr_undo.specs.State.{StoreState}
 use Rattle.fr_undo.specs.Canonical.{Commit}
+use Rattle.fr_undo.specs.Pull.{cut_at, after_calls}
 use Rattle.fr_state.specs.Generations.{LogGeneration, CoordinatedState, IsCoordinatedState, last_of}
 use Rattle.fr_state.specs.LookUp.{next_of, end_of, cut_of, source_of}
 use Rattle.fr_log.specs.Peeked.{PeekedContent}
 use Rattle.fr_log.specs.LogState.{durable_of, known_of}
 use Rattle.fr_storage.specs.declared.fault.StorageFault.{StorageFault}
 use Rattle.fr_storage.specs.declared.fault.StorageFault.TheVariants.{NotMyGeneration, Hole}
-use Rattle.fr_storage.specs.Storage.{StorageState, epoch_of, own_epoch, cut_in, marked_fault, marked_calls, after_marked, peeked_fault, peeked_calls, after_peeked, target_of, cut_at, unless_fault, after_calls, is_epoch, broken_at}
+use Rattle.fr_storage.specs.Storage.{StorageState, epoch_of, own_epoch, cut_in, marked_fault, marked_calls, after_marked, peeked_fault, peeked_calls, after_peeked, target_of, unless_fault, is_epoch, broken_at}
 use Rattle.fr_state.specs.Same.{GoesOn}
 use Rattle.fr_storage.specs.Course.{LeavesOne}
 use Rattle.fr_storage.specs.Follows.{Agrees, IsTrueMark, IsTruePeek, IsLeftOf, commit_of}

@@ -6,10 +6,10 @@ use Rattle.std.proofs.lemmas.List.{map-append}
 use Rattle.std.proofs.lemmas.List.Sums.{fold-append}
 use Rattle.fr_base.specs.declared.place.NodeId.{NodeId}
 use Rattle.fr_base.specs.declared.place.NodeId.TheVariants as node
+use Rattle.fr_mutation.specs.declared.versioned.VersionedBatch.{VersionedBatch}
 use Rattle.fr_state.specs.Generations.{LogGeneration}
 use Rattle.fr_tags.specs.Placement.{is_held}
 use Rattle.fr_log.specs.declared.ask.LogAsk.TheVariants.{Seed, Push}
-use Rattle.fr_log.specs.declared.records.PeekedRecord.{PeekedRecord}
 use Rattle.fr_log.specs.Seed.{SeedContent}
 use Rattle.fr_log.specs.Push.{PushContent}
 use Rattle.fr_log.specs.LogState.{LogState, durable_of, seeded_to_of, records_of, pushed_record}
@@ -134,7 +134,7 @@ seeded_has laws c h config run copies e i l named empty from s sent tag below = 
 -- ---- a push
 
 -- one part after another, if the log holds the tag
-held_on : (b : Bool) (xs ys zs : List PeekedRecord) → xs ++ ys ≡ zs → cond b xs [] ++ cond b ys [] ≡ cond b zs []
+held_on : (b : Bool) (xs ys zs : List VersionedBatch) → xs ++ ys ≡ zs → cond b xs [] ++ cond b ys [] ≡ cond b zs []
 held_on true xs ys zs e = e
 held_on false xs ys zs e = refl
 
@@ -174,7 +174,7 @@ pushed_has laws c h config run e i l named s seeded starts has q took from sent 
         ∙ held_on (is_held tag l.m l.k i) (part_records c h e tag a d) (part_records c h e tag d q.version) (part_records c h e tag a q.version) on
         ∙ ap (λ v. cond (is_held tag l.m l.k i) (part_records c h e tag a v) []) (sym reached)
 
-    none : (b : Bool) (rs : List PeekedRecord) → rs ≡ [] → [] ≡ cond b rs []
+    none : (b : Bool) (rs : List VersionedBatch) → rs ≡ [] → [] ≡ cond b rs []
     none true rs k = sym k
     none false rs k = refl
 

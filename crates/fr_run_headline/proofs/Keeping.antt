@@ -5,12 +5,13 @@ use Rattle.std.specs.List.{Contains, list_any}
 use Rattle.std.proofs.lemmas.Bool.{cases_lt}
 use Rattle.std.proofs.lemmas.List.Elements.{Contains-append_cases}
 use Rattle.fr_undo.specs.State.{StoreState}
+use Rattle.fr_undo.specs.Pull.{Call, UndoTo, SetState}
 use Rattle.fr_state.specs.Generations.{LogGeneration, CoordinatedState}
 use Rattle.fr_state.specs.LookUp.{cut_of}
 use Rattle.fr_state.specs.Same.{is_same_state}
 use Rattle.fr_log.specs.Peeked.{PeekedContent}
 use Rattle.fr_storage.specs.declared.fault.StorageFault.{StorageFault}
-use Rattle.fr_storage.specs.Storage.{StorageState, Call, own_epoch, cut_in, marked_fault, marked_calls, after_marked, peeked_fault, peeked_calls, after_peeked, broken_at, is_broken_at, UndoTo, SetState}
+use Rattle.fr_storage.specs.Storage.{StorageState, own_epoch, cut_in, marked_fault, marked_calls, after_marked, peeked_fault, peeked_calls, after_peeked, broken_at, is_broken_at}
 use Rattle.fr_state.specs.Spelling.{spelling}
 use Rattle.fr_storage.specs.Course.{LeavesOne}
 use Rattle.fr_storage.specs.Law.{MarkedLeads, PeekedLeads}

@@ -2,8 +2,8 @@
 use Rattle.std.proofs.Common.{◌≡◌, ℕ, zero, suc, ◌<◌, ◌≤◌, Bool, true, false, cond, nat_lt, nat_le, List, [], ◌∷◌, length, map, take, get_or, filter, fold, refl, sym, ◌∙◌, ap, subst, inl, inr, arith}
 use Rattle.std.proofs.lemmas.Bool.{cases_lt, ltb-false, ltb-true}
 use Rattle.std.proofs.lemmas.List.{length-map, map-append, take-map, take_all}
+use Rattle.fr_mutation.specs.declared.versioned.VersionedBatch.{VersionedBatch}
 use Rattle.fr_undo.specs.Canonical.{Commit}
-use Rattle.fr_log.specs.declared.records.PeekedRecord.{PeekedRecord}
 use Rattle.fr_log.specs.LogState.{LogState, durable_of, records_of}
 use Rattle.fr_log.specs.Step.{records_above, upto_of, peek_of}
 use Rattle.fr_tail.specs.Copied.{IsWhole, RiseAbove, RiseOn}
@@ -14,11 +14,11 @@ use Rattle.fr_run_headline.proofs.IssuedLists.{version_of}
 use Rattle.fr_run_headline.proofs.PartLists.{commit_version, part_of, part_rises, part_concat, part_cut, part_above, part_none, part_most}
 
 -- a commit of a tag as a record
-abbrev pub record_of : Commit → PeekedRecord
+abbrev pub record_of : Commit → VersionedBatch
 record_of x = record { version = x.0; batch = x.1 }
 
 -- the records of a tag above a version and through another
-abbrev pub records_part : Config → ℕ → List Entry → ℕ → ℕ → List PeekedRecord
+abbrev pub records_part : Config → ℕ → List Entry → ℕ → ℕ → List VersionedBatch
 records_part c tag xs after upto = map record_of (part_of c tag after upto xs)
 
 -- of records, those whose versions pass a test
@@ -47,7 +47,7 @@ last_of_first d (y ∷ ys) zero e l = refl
 last_of_first d (y ∷ ys) (suc n) e l = last_of_first y.0 ys n e (omega arith)
 
 -- what a log gives above a version is a part, if it holds all from a lower version on
-pub record IsGiven (c : Config) (tag : ℕ) (xs : List Entry) (after durable : ℕ) (given : List PeekedRecord) (upto : ℕ) : Type 0 where
+pub record IsGiven (c : Config) (tag : ℕ) (xs : List Entry) (after durable : ℕ) (given : List VersionedBatch) (upto : ℕ) : Type 0 where
   pub records : given ≡ records_part c tag xs after upto
   pub low : after ≤ durable → after ≤ upto
   pub high : upto ≤ durable
@@ -108,7 +108,7 @@ records_rise_above : (a b : ℕ) (ys : List Commit) → RiseIn commit_version a 
 records_rise_above a b [] r = tt
 records_rise_above a b (y ∷ ys) (lt, r) = (lt, records_rise_above y.0 b ys r)
 
-rise_on_of : (low : ℕ) (rs : List PeekedRecord) → RiseAbove low rs → RiseOn rs
+rise_on_of : (low : ℕ) (rs : List VersionedBatch) → RiseAbove low rs → RiseOn rs
 rise_on_of low [] r = tt
 rise_on_of low (x ∷ rs) (lt, r) = r
 

@@ -3,10 +3,10 @@ use Rattle.std.proofs.Common.{◌≡◌, ℕ, ◌<◌, ◌≤◌, Bool, true, fa
 use Rattle.std.specs.Prelude.{IfSome}
 use Rattle.fr_base.specs.declared.place.NodeId.{NodeId}
 use Rattle.fr_base.specs.declared.place.NodeId.TheVariants as node
+use Rattle.fr_mutation.specs.declared.versioned.VersionedBatch.{VersionedBatch}
 use Rattle.fr_tags.specs.Placement.{is_held}
 use Rattle.fr_log.specs.declared.ask.LogAsk.{LogAsk}
 use Rattle.fr_log.specs.declared.ask.LogAsk.TheVariants.{Seed, Push}
-use Rattle.fr_log.specs.declared.records.PeekedRecord.{PeekedRecord}
 use Rattle.fr_log.specs.Left.{popped_at}
 use Rattle.fr_log.specs.Push.{PushContent}
 use Rattle.fr_log.specs.Seed.{SeedContent}
@@ -46,7 +46,7 @@ record AreTrue (c : Config) (h : List Turn) : Type 0 where
 
 -- ---- the start
 
-none : (b : Bool) (rs : List PeekedRecord) → rs ≡ [] → [] ≡ cond b rs []
+none : (b : Bool) (rs : List VersionedBatch) → rs ≡ [] → [] ≡ cond b rs []
 none true rs k = sym k
 none false rs k = refl
 

@@ -3,9 +3,9 @@ use Rattle.std.specs.Prelude.{◌≡◌, ◌<◌, ◌≤◌, ℕ, ◌-◌, max, 
 use Rattle.fr_base.specs.declared.place.NodeId.{NodeId}
 use Rattle.fr_base.specs.declared.place.NodeId.TheVariants as node
 use Rattle.fr_mutation.specs.declared.mutation.Mutation.{Mutation}
+use Rattle.fr_mutation.specs.declared.versioned.VersionedBatch.{VersionedBatch}
 use Rattle.fr_state.specs.Generations.{LogGeneration}
 use Rattle.fr_tags.specs.Placement.{is_held}
-use Rattle.fr_log.specs.declared.records.PeekedRecord.{PeekedRecord}
 use Rattle.fr_log.specs.declared.ask.LogTell.TheVariants.{Peeked}
 use Rattle.fr_log.specs.Peeked.{PeekedContent}
 use Rattle.fr_log.specs.Left.{popped_at}
@@ -22,11 +22,11 @@ use Rattle.fr_run.specs.StateLaws.{IsConfig}
 use Rattle.fr_run_headline.specs.Issued.{part}
 
 -- a commit of a tag as a record
-abbrev pub record_of_commit : ℕ × List Mutation → PeekedRecord
+abbrev pub record_of_commit : ℕ × List Mutation → VersionedBatch
 record_of_commit x = record { version = x.0; batch = x.1 }
 
 -- a tag's part of what an epoch issues, as records
-abbrev pub part_records : Config → List Turn → ℕ → ℕ → ℕ → ℕ → List PeekedRecord
+abbrev pub part_records : Config → List Turn → ℕ → ℕ → ℕ → ℕ → List VersionedBatch
 part_records c h e tag after upto = map record_of_commit (part c h e tag after upto)
 
 -- ---- logs

@@ -2,10 +2,10 @@
 use Rattle.std.specs.Prelude.{◌≡◌, ◌<◌, ◌≤◌, ℕ, ◌-◌, true, nat_lt, nat_le, ◌==◌, List, [], ◌∷◌, length, filter, Some, IsSome, All, Contains, if◌then◌else◌}
 use Rattle.fr_base.specs.declared.place.NodeId.{NodeId}
 use Rattle.fr_base.specs.declared.place.NodeId.TheVariants as node
+use Rattle.fr_mutation.specs.declared.versioned.VersionedBatch.{VersionedBatch}
 use Rattle.fr_state.specs.Generations.{LogGeneration}
 use Rattle.fr_state.specs.LookUp.{source_of}
 use Rattle.fr_tags.specs.Placement.{is_held, log_count}
-use Rattle.fr_log.specs.declared.records.PeekedRecord.{PeekedRecord}
 use Rattle.fr_log.specs.Left.{popped_at}
 use Rattle.fr_log.specs.LogState.{durable_of, records_of, swept}
 use Rattle.fr_run.specs.Config.{Config}
@@ -51,7 +51,7 @@ AreFewLost c h e = All (λ g. log_count g.m (lost_logs h g.epoch) < g.k) (state_
 -- ---- what can be retrieved
 
 -- the records of a version
-abbrev pub records_at : ℕ → List PeekedRecord → List PeekedRecord
+abbrev pub records_at : ℕ → List VersionedBatch → List VersionedBatch
 records_at version records = filter (λ r. nat_le r.version version) (filter (λ r. nat_lt (version - 1) r.version) records)
 
 -- a version's part of a tag can be had from a log of the version's source that is not lost. The log holds the tag,

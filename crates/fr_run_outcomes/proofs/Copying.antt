@@ -7,9 +7,9 @@ use Rattle.std.proofs.lemmas.List.Elements.{All-nil, All-cons, All-head, All-tai
 use Rattle.std.proofs.lemmas.List.Folds.{list_all_at}
 use Rattle.fr_base.specs.declared.place.NodeId.{NodeId}
 use Rattle.fr_base.specs.declared.place.NodeId.TheVariants as node
+use Rattle.fr_mutation.specs.declared.versioned.VersionedBatch.{VersionedBatch}
 use Rattle.fr_tags.specs.Placement.{is_held}
 use Rattle.fr_state.specs.Generations.{LogGeneration}
-use Rattle.fr_log.specs.declared.records.PeekedRecord.{PeekedRecord}
 use Rattle.fr_log.specs.Left.{popped_at}
 use Rattle.fr_log.specs.Peeked.{PeekedContent}
 use Rattle.fr_log.specs.LogState.{LogState, first_of, durable_of, holds, records_of}
@@ -52,8 +52,8 @@ use Rattle.fr_run_outcomes.proofs.Copies.{IsSource, begins_same, of_replies, is_
 -- ---- an answer to a peek
 
 -- records above a version are above it
-above_all : (after : ℕ) (rs : List PeekedRecord) → All (λ r. after < r.version) (filter (λ r. nat_lt after r.version) rs)
-above_all after [] = All-nil (λ (r : PeekedRecord). after < r.version)
+above_all : (after : ℕ) (rs : List VersionedBatch) → All (λ r. after < r.version) (filter (λ r. nat_lt after r.version) rs)
+above_all after [] = All-nil (λ (r : VersionedBatch). after < r.version)
 above_all after (r ∷ rs) = go (nat_lt after r.version) refl (above_all after rs)
   where
     go : (b : Bool) → nat_lt after r.version ≡ b → All (λ x. after < x.version) (filter (λ x. nat_lt after x.version) rs)
@@ -61,7 +61,7 @@ above_all after (r ∷ rs) = go (nat_lt after r.version) refl (above_all after r
     go true e rest = All-cons (λ x. after < x.version) r (filter (λ x. nat_lt after x.version) rs) (ltb-true after r.version e) rest
     go false e rest = rest
 
-last_above : (after v : ℕ) (rs : List PeekedRecord) → after < v → All (λ r. after < r.version) rs → after < fold (λ version r. r.version) v rs
+last_above : (after v : ℕ) (rs : List VersionedBatch) → after < v → All (λ r. after < r.version) rs → after < fold (λ version r. r.version) v rs
 last_above after v [] l all = l
 last_above after v (r ∷ rs) l all = last_above after r.version rs (All-head (λ x. after < x.version) r rs all) (All-tail (λ x. after < x.version) r rs all)
 

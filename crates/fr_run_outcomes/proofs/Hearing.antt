@@ -5,6 +5,7 @@ use Rattle.std.specs.List.{Contains}
 use Rattle.std.proofs.lemmas.Bool.{eq-eqb, ne_eqb, ltb-true, lt-ltb}
 use Rattle.std.proofs.lemmas.List.Elements.{All-nil, All-cons}
 use Rattle.fr_base.specs.declared.place.NodeId.TheVariants as node
+use Rattle.fr_undo.specs.Pull.{after_calls}
 use Rattle.fr_state.specs.Generations.{CoordinatedState}
 use Rattle.fr_log.specs.Push.{PushContent}
 use Rattle.fr_log.specs.LogState.{LogState, mark_among}
@@ -17,7 +18,7 @@ use Rattle.fr_log.specs.declared.ask.LogTell.TheVariants.{Marked}
 use Rattle.fr_ask.specs.declared.tell.Tell.TheVariants as tell
 use Rattle.fr_storage.specs.declared.fault.StorageFault.TheVariants.{Older, Stranger, BelowFloor}
 use Rattle.fr_state.specs.Same.{is_same_state}
-use Rattle.fr_storage.specs.Storage.{StorageState, own_epoch, is_stranger, cut_in, marked_fault, marked_calls, after_calls, unless_fault, after_marked}
+use Rattle.fr_storage.specs.Storage.{StorageState, own_epoch, is_stranger, cut_in, marked_fault, marked_calls, unless_fault, after_marked}
 use Rattle.fr_run.specs.Config.{Config}
 use Rattle.fr_run.specs.Turn.{Turn, LogTurn, StorageHeard, Gone, Told}
 use Rattle.fr_run.specs.Nodes.{logs_at, log_at, storage_hear, storage_at}

@@ -4,6 +4,7 @@ use Rattle.std.specs.Prelude.{IfSome}
 use Rattle.std.specs.List.{Contains, All}
 use Rattle.std.proofs.lemmas.Bool.{eq-eqb, le-ltb}
 use Rattle.std.proofs.lemmas.List.Elements.{All-weaker, All-contains}
+use Rattle.fr_undo.specs.Pull.{after_calls, cut_at}
 use Rattle.fr_register.specs.Chosen.{IsChosen}
 use Rattle.fr_register.specs.Poll.{Stamped}
 use Rattle.fr_state.specs.Generations.{LogGeneration, CoordinatedState}
@@ -18,7 +19,7 @@ use Rattle.fr_log.specs.Refusal.{refusal_of}
 use Rattle.fr_log.specs.Step.{next_of, next_unless}
 use Rattle.fr_storage.specs.declared.fault.StorageFault.{StorageFault}
 use Rattle.fr_storage.specs.declared.fault.StorageFault.TheVariants.{NotMyGeneration, Hole}
-use Rattle.fr_storage.specs.Storage.{StorageState, after_calls, is_epoch, cut_at, peeked_fault, peeked_calls, unless_fault, after_peeked}
+use Rattle.fr_storage.specs.Storage.{StorageState, is_epoch, peeked_fault, peeked_calls, unless_fault, after_peeked}
 use Rattle.fr_run.specs.Config.{Config, first_epoch, first_state, first_cell}
 use Rattle.fr_run.specs.Turn.{Turn, cell_turns}
 use Rattle.fr_run.specs.Nodes.{plan_in, generation_at}

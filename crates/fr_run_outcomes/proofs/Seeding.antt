@@ -7,9 +7,9 @@ use Rattle.std.proofs.lemmas.List.Elements.{All-nil, All-cons, All-head, All-tai
 use Rattle.std.proofs.lemmas.List.Folds.{list_all-append, list_any-append}
 use Rattle.fr_base.specs.declared.place.NodeId.{NodeId}
 use Rattle.fr_base.specs.declared.place.NodeId.TheVariants as node
+use Rattle.fr_mutation.specs.declared.versioned.VersionedBatch.{VersionedBatch}
 use Rattle.fr_tags.specs.Placement.{is_held}
 use Rattle.fr_state.specs.Generations.{LogGeneration}
-use Rattle.fr_log.specs.declared.records.PeekedRecord.{PeekedRecord}
 use Rattle.fr_log.specs.declared.records.SeedRecord.{SeedRecord}
 use Rattle.fr_log.specs.Left.{left_seed}
 use Rattle.fr_log.specs.Seed.{SeedContent, is_same_seed, is_same_seed-IsSameness}
@@ -117,7 +117,7 @@ order_all : (f : SeedRecord → Bool) (rs : List SeedRecord) → list_all f rs �
 order_all f [] all = refl
 order_all f (r ∷ rs) all = let parts = and_parts (f r) (list_all f rs) all in placed_all f r (in_order rs) parts.0 (order_all f rs parts.1)
 
-map_all : (f : SeedRecord → Bool) (g : PeekedRecord → SeedRecord) (xs : List PeekedRecord) → ((x : PeekedRecord) → f (g x) ≡ true) → list_all f (map g xs) ≡ true
+map_all : (f : SeedRecord → Bool) (g : VersionedBatch → SeedRecord) (xs : List VersionedBatch) → ((x : VersionedBatch) → f (g x) ≡ true) → list_all f (map g xs) ≡ true
 map_all f g [] each = refl
 map_all f g (x ∷ xs) each = ap (λ y. y && list_all f (map g xs)) (each x) ∙ map_all f g xs each
 

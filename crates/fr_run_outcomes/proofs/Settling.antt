@@ -5,6 +5,7 @@ use Rattle.std.proofs.lemmas.Bool.{cases_lt, eqb-true, ltb-true}
 use Rattle.fr_base.specs.declared.place.NodeId.{NodeId}
 use Rattle.fr_base.specs.declared.place.NodeId.TheVariants as node
 use Rattle.fr_undo.specs.State.{StoreState}
+use Rattle.fr_undo.specs.Pull.{Call, UndoTo, SetState}
 use Rattle.fr_state.specs.Generations.{LogGeneration, CoordinatedState}
 use Rattle.fr_state.specs.LookUp.{cut_of}
 use Rattle.fr_state.specs.Same.{is_same_state}
@@ -17,7 +18,7 @@ use Rattle.fr_ask.specs.declared.tell.Tell.TheVariants as tell
 use Rattle.fr_storage.specs.declared.fault.StorageFault.{StorageFault}
 use Rattle.fr_storage.specs.Course.{LeavesOne}
 use Rattle.fr_storage.specs.Law.{MarkedLeads, PeekedLeads}
-use Rattle.fr_storage.specs.Storage.{StorageState, Call, own_epoch, cut_in, marked_fault, marked_calls, after_marked, peeked_fault, peeked_calls, after_peeked, broken_at, is_broken_at, UndoTo, SetState}
+use Rattle.fr_storage.specs.Storage.{StorageState, own_epoch, cut_in, marked_fault, marked_calls, after_marked, peeked_fault, peeked_calls, after_peeked, broken_at, is_broken_at}
 use Rattle.fr_run.specs.Config.{Config}
 use Rattle.fr_run.specs.Turn.{Turn, Begun, CellTurn, LogTurn, SeqTurn, Submitted, ProxyHeard, RecHeard, StorageHeard, Gone, Crashed, Told}
 use Rattle.fr_run.specs.Nodes.{generation_at, storage_hear, part_hear, storage_after, storage_at}

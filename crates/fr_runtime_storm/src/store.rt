@@ -5,7 +5,7 @@ ghost use Rattle.fr_undo.specs.Calls.{IsTrouble};
 ghost use Rattle.fr_sql_calls.specs.WorkCalls.{MeetsAll};
 
 use fr_base::{Bytes, Version};
-use fr_mutation::{Batch, Shard};
+use fr_mutation::{Batch, Shard, VersionedBatch};
 use fr_sql_files::SqlFileStore;
 use fr_sql_rows::FaithfulDisk;
 use fr_undo::{ShardStore, StoreFault};
@@ -101,6 +101,17 @@ impl<D: FaithfulDisk + Drop> ShardStore for FrailStore<D> {
 
     fn forget_through(&mut self, alloc: Global, version: Version) -> Result<(), StoreFault> {
         self.store.forget_through(alloc, version)
+    }
+
+    fn take(
+        &mut self,
+        alloc: Global,
+        records: &[VersionedBatch],
+        end: Option<Version>,
+        upto: Version,
+        known: Version,
+    ) -> Result<(), StoreFault> {
+        self.store.take(alloc, records, end, upto, known)
     }
 
     fn set_state(&mut self, alloc: Global, bytes: Bytes) -> Result<(), StoreFault> {

@@ -1,22 +1,26 @@
 -- What is known once keys are looked up.
-use Rattle.std.proofs.Common.{◌≡◌, ℕ, Bool, true, false, cond, ◌||◌, List, [], ◌∷◌, Option, None, Some, refl, sym, ap, ◌∙◌}
+use Rattle.std.proofs.Common.{◌≡◌, ℕ, ◌≤◌, Bool, true, false, cond, ◌||◌, ◌&&◌, nat_lt, drop, length, List, [], ◌∷◌, Option, None, Some, refl, sym, ap, ◌∙◌}
 use Rattle.std.specs.Prelude.{is_some}
 use Rattle.std.specs.declared.cmp.Ordering.{Ordering}
 use Rattle.std.specs.Cmp.{IsTotalOrder, eq_by_cmp_equiv}
 use Rattle.std.specs.Option.{option_or}
+use Rattle.std.specs.Map.{lookup}
 use Rattle.std.specs.FinMap.{IsAntisymmetric, find, entries, retain_keys, get-entries, get-retain_keys}
 use Rattle.std.specs.BTreeMap as tree
 use Rattle.std.specs.BTreeMap.{BTreeMap, is_at}
+use Rattle.std.proofs.lemmas.List.{at_drop_all}
 use Rattle.sqlite.specs.Order.{Row}
 use Rattle.fr_base.specs.Bytes.{bytes_cmp, is_same, bytes_exact}
 use Rattle.fr_base.proofs.MapLemmas.{one_key}
-use Rattle.fr_mutation.specs.Mutation.{is_between}
+use Rattle.fr_mutation.specs.declared.versioned.VersionedBatch.{VersionedBatch}
+use Rattle.fr_mutation.specs.Mutation.{is_between, touched}
 use Rattle.fr_undo.specs.Trees.{Contents}
+use Rattle.fr_undo.specs.Pull.{any_touched, is_within, records_between}
 use Rattle.fr_undo.proofs.RowLemmas.{option_or_none}
 use Rattle.fr_undo.proofs.ChangeLemmas.{none_from_is_some}
 use Rattle.fr_sql_rows.specs.Rows.{value_in, contents_in}
 use Rattle.fr_sql_calls.proofs.WorkLemmas.{get_contents}
-use Rattle.fr_sql_calls.specs.Known.{LooksUp}
+use Rattle.fr_sql_calls.specs.Known.{LooksUp, KnowsOf}
 
 some_first : {X : Type 0} (o p : Option X) → is_some o ≡ true → o ≡ option_or o p
 some_first None p e = absurd cc
@@ -131,3 +135,32 @@ looks_end held all known q e = sym (option_or_none (tree.get bytes_cmp known q))
 
 pub or_nothing : {K X : Type 0} (R : K → K → Ordering) (o : Option X) (q : K) (es : List (K × X)) → es ≡ [] → option_or o (find R q es) ≡ o
 or_nothing R o q es is = ap (λ l. option_or o (find R q l)) is ∙ option_or_none o
+
+-- what is looked up where nothing was known is all that is known
+pub known_of : (test : List ℕ → Bool) (held : List ℕ → Option (List ℕ)) (old new : Contents) → old.entries ≡ [] → LooksUp test held old new → KnowsOf test held new
+known_of test held old new none looked q = looked q ∙ ap (λ es. option_or (lookup (is_at (bytes_cmp q)) es) (cond (test q) (held q) None)) none
+
+-- once nothing is left, all that was to be looked up was
+pub looks_whole : (test : List ℕ → Bool) (held : List ℕ → Option (List ℕ)) (old new : Contents) → ((q : List ℕ) → option_or (tree.get bytes_cmp new q) None ≡ option_or (tree.get bytes_cmp old q) (cond (test q) (held q) None)) → LooksUp test held old new
+looks_whole test held old new e q = sym (option_or_none (tree.get bytes_cmp new q)) ∙ e q
+
+-- a batch that is taken was looked up, and those after it are left
+pub batch_looked : (held : List ℕ → Option (List ℕ)) (applied : ℕ) (end : Option ℕ) (r : VersionedBatch) (rs : List VersionedBatch) (old new : Contents) → (nat_lt applied r.version && is_within end r.version) ≡ true → LooksUp (touched r.batch) held old new
+    → (q : List ℕ) → option_or (tree.get bytes_cmp new q) (cond (any_touched (records_between applied end rs) q) (held q) None) ≡ option_or (tree.get bytes_cmp old q) (cond (any_touched (records_between applied end (r ∷ rs)) q) (held q) None)
+batch_looked held applied end r rs old new is looked q =
+    looks_step held (touched r.batch) (any_touched (records_between applied end rs)) old new looked q
+    ∙ sym (ap (λ (b : Bool). option_or (tree.get bytes_cmp old q) (cond (any_touched (cond b (r ∷ records_between applied end rs) (records_between applied end rs)) q) (held q) None)) is)
+
+-- one that is passed over leaves those after it
+pub batch_passed : (held : List ℕ → Option (List ℕ)) (applied : ℕ) (end : Option ℕ) (r : VersionedBatch) (rs : List VersionedBatch) (known : Contents) → (nat_lt applied r.version && is_within end r.version) ≡ false
+    → (q : List ℕ) → option_or (tree.get bytes_cmp known q) (cond (any_touched (records_between applied end rs) q) (held q) None) ≡ option_or (tree.get bytes_cmp known q) (cond (any_touched (records_between applied end (r ∷ rs)) q) (held q) None)
+batch_passed held applied end r rs known is q =
+    sym (ap (λ (b : Bool). option_or (tree.get bytes_cmp known q) (cond (any_touched (cond b (r ∷ records_between applied end rs) (records_between applied end rs)) q) (held q) None)) is)
+
+-- once no batch is left, all that they touch is known
+pub batches_end : (held : List ℕ → Option (List ℕ)) (applied : ℕ) (end : Option ℕ) (all : List VersionedBatch) (i : ℕ) (known : Contents) → length all ≤ i
+    → ((q : List ℕ) → option_or (tree.get bytes_cmp known q) (cond (any_touched (records_between applied end (drop i all)) q) (held q) None) ≡ cond (any_touched (records_between applied end all) q) (held q) None)
+    → KnowsOf (any_touched (records_between applied end all)) held known
+batches_end held applied end all i known over is q =
+    looks_end held (any_touched (records_between applied end all)) known q
+    (sym (at_drop_all (λ (rs : List VersionedBatch). option_or (tree.get bytes_cmp known q) (cond (any_touched (records_between applied end rs) q) (held q) None)) all i over) ∙ is q)

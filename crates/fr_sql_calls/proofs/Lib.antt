@@ -6,3 +6,5 @@ pub mod UndoLeads
 pub mod CountLemmas
 pub mod StepLemmas
 pub mod WorkLemmas
+pub mod RenewLemmas
+pub mod TakeLeads

@@ -1,5 +1,5 @@
 -- What one transaction makes of the tables.
-use Rattle.std.specs.Prelude.{◌≡◌, ℕ, Bool, List, [], ◌∷◌, Option, None, Some, IfSome, IsTrue, not, cond, nat_le, nat_lt}
+use Rattle.std.specs.Prelude.{◌≡◌, ℕ, Bool, List, [], ◌∷◌, Option, None, Some, IfSome, IsSome, IsTrue, not, cond, nat_le, nat_lt}
 use Rattle.std.specs.Option.{option_or}
 use Rattle.std.specs.BTreeMap as tree
 use Rattle.std.specs.BTreeMap.{is_at}
@@ -10,10 +10,11 @@ use Rattle.fr_undo.specs.declared.changes.Change.{Change}
 use Rattle.fr_undo.specs.State.{Place, place_cmp}
 use Rattle.fr_undo.specs.Undo.{before_if_changed, same_value}
 use Rattle.fr_undo.specs.Changes.{Changes, written_if, row_of}
+use Rattle.fr_undo.specs.Rows.{RowList, IsInOrder, row_in}
 use Rattle.fr_sql_rows.specs.Rows.{value_in, before_in, meta_row}
 use Rattle.fr_sql_rows.specs.Connection.{IsLaidOut}
 use Rattle.fr_sql_calls.specs.declared.work.RowWork.{RowWork}
-use Rattle.fr_sql_calls.specs.declared.work.RowWork.TheVariants.{Keep, Note, DropAbove, DropThrough}
+use Rattle.fr_sql_calls.specs.declared.work.RowWork.TheVariants.{Keep, Note, DropAbove, DropThrough, Renew}
 use Rattle.fr_sql_calls.specs.declared.work.MetaWork.{MetaWork}
 use Rattle.fr_sql_calls.specs.declared.work.MetaWork.TheVariants.{Versions, State}
 use Rattle.fr_sql_calls.specs.declared.work.Work.{Work}
@@ -39,6 +40,7 @@ row_after changes Keep p old = old
 row_after changes (Note version) p old = option_or (row_of (tree.get bytes_cmp changes) version p) old
 row_after changes (DropAbove version) p old = cond (nat_le p.0 version) old None
 row_after changes (DropThrough version) p old = cond (nat_lt version p.0) old None
+row_after changes (Renew through rows) p old = option_or (row_in rows.items p) (cond (nat_lt through p.0) old None)
 
 -- the undo rows are those that the work makes
 pub record Rows (changes : Changes) (work : RowWork) (old new : Database) : Type 0 where
@@ -66,12 +68,18 @@ pub record Does (work : Work) (old new : Database) : Type 0 where
   pub rows : (p : Place) → before_in (new.trees 2) p ≡ row_after work.changes work.rows p (before_in (old.trees 2) p)
   pub meta : (a f : ℕ) (bytes : List ℕ) → old.trees 4 ≡ meta_row a f bytes ∷ [] → new.trees 4 ≡ meta_after work.meta a f bytes ∷ []
 
--- no undo row is at a version if the work is to add some
+-- undo rows are in order, and none is at their places yet
+pub record AreFree (rows : RowList) (db : Database) : Type 0 where
+  pub order : IsInOrder rows
+  pub free : (p : Place) → IsSome (row_in rows p) → before_in (db.trees 2) p ≡ None
+
+-- no undo row is at a place at which the work is to add one
 abbrev pub HasRoom : RowWork → Database → Type 0
 HasRoom Keep db = Unit {0}
 HasRoom (Note version) db = (q : List ℕ) → before_in (db.trees 2) (version, q) ≡ None
 HasRoom (DropAbove version) db = Unit {0}
 HasRoom (DropThrough version) db = Unit {0}
+HasRoom (Renew through rows) db = AreFree rows.items db
 
 -- the work knows the tables that it is to change
 pub record Fits (work : Work) (db : Database) : Type 0 where
@@ -91,4 +99,11 @@ pub record WritesOne (key : List ℕ) (change : Change) (old new : Database) : T
   pub laid : IsLaidOut new
   pub values : (q : List ℕ) → value_in (new.trees 0) q ≡ cond (is_same key q) (written_if differs (Some change) (value_in (old.trees 0) q)) (value_in (old.trees 0) q)
   pub undo : new.trees 2 ≡ old.trees 2
+  pub meta : new.trees 4 ≡ old.trees 4
+
+-- undo rows are added
+pub record Adds (added : RowList) (old new : Database) : Type 0 where
+  pub laid : IsLaidOut new
+  pub kv : new.trees 0 ≡ old.trees 0
+  pub rows : (p : Place) → before_in (new.trees 2) p ≡ option_or (row_in added p) (before_in (old.trees 2) p)
   pub meta : new.trees 4 ≡ old.trees 4

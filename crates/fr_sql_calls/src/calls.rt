@@ -1,29 +1,31 @@
 //! The calls that read, and those that write, as one transaction each. A call that writes is told how many undo rows
 //! there are, and answers how many there are then, so that no call reads the whole table for that number.
-ghost use Rattle.std.specs.Prelude.{◌≡◌, ◌<◌, ◌≤◌, IfOk, IfErr};
+ghost use Rattle.std.specs.Prelude.{◌≡◌, ◌<◌, ◌≤◌, [], IfOk, IfErr, IsOk, IsTrue};
 ghost use Rattle.std.specs.FinMap as map;
 ghost use Rattle.sqlite.specs.Held.{state};
 ghost use Rattle.fr_undo.specs.State.{StoreState};
 ghost use Rattle.fr_undo.specs.Undo.{extended, undone, value_undone, forgotten, advanced, with_bytes};
 ghost use Rattle.fr_mutation.specs.Shard.{part};
+ghost use Rattle.fr_mutation.specs.Versioned.{is_rising_from};
+ghost use Rattle.fr_undo.specs.Pull.{take_calls};
 ghost use Rattle.fr_sql_rows.specs.Told.{IsTold};
 ghost use Rattle.fr_sql_rows.specs.Rows.{contents_in, bytes_in};
 ghost use Rattle.fr_sql_rows.specs.Connection.{IsAtRest, IsLaidOut};
 ghost use Rattle.fr_sql_calls.specs.Work.{Fits};
 ghost use Rattle.fr_sql_calls.specs.WorkCalls.{Looks};
 ghost use Rattle.fr_sql_calls.specs.Tables.{state_in, Stands};
-ghost use Rattle.fr_sql_calls.specs.Calls.{LeadsTo, Makes};
+ghost use Rattle.fr_sql_calls.specs.Calls.{LeadsTo, Makes, taken, rows_told};
 
 use crate::connection::{
     all, bytes as held_bytes, first_above, make, of_shard, value as held_value,
 };
 use crate::marks::Marks;
-use crate::plan::{plan_apply, plan_undo};
+use crate::plan::{net_read, plan_apply, plan_undo, work_of};
 use crate::work::{MetaWork, RowWork, Work};
 use fr_base::{Bytes, Version};
-use fr_mutation::{Batch, Shard};
+use fr_mutation::{Batch, Shard, VersionedBatch};
 use fr_sql_rows::{Backing, Refusals, Trouble};
-use fr_undo::StoreFault;
+use fr_undo::{Reach, StoreFault};
 use sqlite::Connection;
 use std::alloc::Global;
 use std::collections::BTreeMap;
@@ -138,6 +140,44 @@ fn try_set_state<S: Backing>(
     write(conn, marks, &work)
 }
 
+/// Takes what a log gave, as one transaction, and tells the marks then.
+fn try_take<S: Backing>(
+    alloc: Global,
+    conn: &mut Connection<S>,
+    marks: &Marks,
+    records: &[VersionedBatch],
+    end: Option<Version>,
+    upto: Version,
+    known: Version,
+) -> Result<Marks, Trouble>
+    requires stands { Stands (state S.Store conn.old) marks.now.applied marks.now.floor marks.now.rows }
+    requires rise { IsTrue (is_rising_from 0 records.now) }
+    ensures makes { Makes (taken (state_in (state S.Store conn.old).now.trees) end records.now upto known)
+        (state S.Store conn.old) (state S.Store conn.new) (rows_told result) }
+    ensures applied { IfOk result (λ now. now.applied ≡ (taken (state_in (state S.Store conn.old).now.trees) end records.now upto known).applied) }
+    ensures floor { IfOk result (λ now. now.floor ≡ (taken (state_in (state S.Store conn.old).now.trees) end records.now upto known).floor) }
+    ensures idle { take_calls (state_in (state S.Store conn.old).now.trees) end records.now upto known ≡ [] → IsOk result }
+{
+    let reach = Reach {
+        applied: marks.applied,
+        end,
+    };
+    // Before anything is read: what brings nothing cannot fail.
+    if reach.brings_nothing(marks.floor, records, upto, known) {
+        return Ok(*marks);
+    }
+    let net = net_read(alloc, conn, marks, &reach, records, upto, known)?;
+    let (applied, floor) = (net.applied, net.floor);
+    match write(conn, marks, &work_of(net)) {
+        Ok(rows) => Ok(Marks {
+            applied,
+            floor,
+            rows,
+        }),
+        Err(trouble) => Err(trouble),
+    }
+}
+
 /// The value that a key had at a version that is not above the one applied.
 fn try_value_then<S: Backing>(
     conn: &mut Connection<S>,
@@ -250,6 +290,29 @@ pub fn apply<S: Backing>(
 {
     // One door for the faults of plan and transaction alike (invariant 7).
     told.told(try_apply(alloc, conn, marks, version, batch))
+}
+
+/// Takes what a log gave, as one transaction, and tells the marks then. What brings nothing makes none.
+pub fn take<S: Backing>(
+    alloc: Global,
+    conn: &mut Connection<S>,
+    told: &mut Refusals,
+    marks: &Marks,
+    records: &[VersionedBatch],
+    end: Option<Version>,
+    upto: Version,
+    known: Version,
+) -> Result<Marks, StoreFault>
+    requires stands { Stands (state S.Store conn.old) marks.now.applied marks.now.floor marks.now.rows }
+    requires rise { IsTrue (is_rising_from 0 records.now) }
+    ensures makes { Makes (taken (state_in (state S.Store conn.old).now.trees) end records.now upto known)
+        (state S.Store conn.old) (state S.Store conn.new) (rows_told result) }
+    ensures applied { IfOk result (λ now. now.applied ≡ (taken (state_in (state S.Store conn.old).now.trees) end records.now upto known).applied) }
+    ensures floor { IfOk result (λ now. now.floor ≡ (taken (state_in (state S.Store conn.old).now.trees) end records.now upto known).floor) }
+    ensures idle { take_calls (state_in (state S.Store conn.old).now.trees) end records.now upto known ≡ [] → IsOk result }
+    ensures told { IfErr result (IsTold told.old told.new) }
+{
+    told.told(try_take(alloc, conn, marks, records, end, upto, known))
 }
 
 /// Undoes the versions above an earlier one, and counts the undo rows.

@@ -7,6 +7,7 @@ ghost use Rattle.sqlite.specs.Held.{state};
 ghost use Rattle.fr_base.specs.Bytes.{bytes_cmp, is_same};
 ghost use Rattle.fr_mutation.specs.Mutation.{is_between, touches, touched};
 ghost use Rattle.fr_undo.specs.State.{Place, place_cmp};
+ghost use Rattle.fr_undo.specs.Pull.{any_touched, records_between};
 ghost use Rattle.fr_sql_rows.specs.Rows.{value_in, before_in};
 ghost use Rattle.fr_sql_rows.specs.Connection.{IsAtRest, IsLaidOut};
 ghost use Rattle.fr_sql_calls.specs.WorkCalls.{Looks};
@@ -14,8 +15,9 @@ ghost use Rattle.fr_sql_calls.specs.Known.{LooksUp, KnowsOf, has_row};
 
 use crate::connection::{above, between, value};
 use fr_base::{Bytes, Memory, Version};
-use fr_mutation::{Batch, Mutation};
+use fr_mutation::{Batch, Mutation, VersionedBatch};
 use fr_sql_rows::{Backing, Trouble};
+use fr_undo::Reach;
 use sqlite::Connection;
 use std::alloc::Global;
 use std::collections::BTreeMap;
@@ -114,6 +116,24 @@ fn look<S: Backing>(
     }
 }
 
+/// Looks the keys up on which a batch acts.
+fn look_all<S: Backing>(
+    alloc: Global,
+    conn: &mut Connection<S>,
+    known: &mut BTreeMap<Bytes, Bytes>,
+    batch: &Batch,
+) -> Result<(), Trouble>
+    requires rest { IsAtRest (state S.Store conn.old) }
+    requires laid { IsLaidOut (state S.Store conn.old).now }
+    ensures looked { OnOk result (LooksUp (touched batch.now) (value_in ((state S.Store conn.old).now.trees 0)) known.old known.new) }
+    ensures looks { Looks (state S.Store conn.old) (state S.Store conn.new) result }
+{
+    for mutation in batch.mutations() {
+        look(alloc, conn, known, mutation)?;
+    }
+    Ok(())
+}
+
 /// What the keys hold on which a batch acts: each is looked up once, and each range by one statement.
 pub(crate) fn held_by<S: Backing>(
     alloc: Global,
@@ -126,8 +146,29 @@ pub(crate) fn held_by<S: Backing>(
     ensures looks { Looks (state S.Store conn.old) (state S.Store conn.new) result }
 {
     let mut known = BTreeMap::new(alloc);
-    for mutation in batch.mutations() {
-        look(alloc, conn, &mut known, mutation)?;
+    look_all(alloc, conn, &mut known, batch)?;
+    Ok(known)
+}
+
+/// What the keys hold on which the batches of a pull act that it brings.
+pub(crate) fn held_by_all<S: Backing>(
+    alloc: Global,
+    conn: &mut Connection<S>,
+    reach: &Reach,
+    records: &[VersionedBatch],
+) -> Result<BTreeMap<Bytes, Bytes>, Trouble>
+    requires rest { IsAtRest (state S.Store conn.old) }
+    requires laid { IsLaidOut (state S.Store conn.old).now }
+    ensures known { IfOk result (KnowsOf (any_touched (records_between reach.now.applied reach.now.end records.now))
+        (value_in ((state S.Store conn.old).now.trees 0))) }
+    ensures looks { Looks (state S.Store conn.old) (state S.Store conn.new) result }
+{
+    let mut known = BTreeMap::new(alloc);
+    for record in records {
+        // What is passed over is not looked up: its keys hold what they held.
+        if reach.takes(record.version) {
+            look_all(alloc, conn, &mut known, &record.batch)?;
+        }
     }
     Ok(known)
 }

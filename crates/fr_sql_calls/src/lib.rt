@@ -22,6 +22,8 @@
 //!    connection works.
 //! 7. Every fault that leaves the crate was counted (`IsTold`). Otherwise a body that answers `Device` or `Full`
 //!    without cause would meet the contracts of a store.
+//! 8. A pull writes what its batches make together (`net_of` of fr_undo, `leads_take`): each key once, and no undo row
+//!    that it forgets itself. By a transaction for each batch it would write and sync some pages for each of them.
 #![tactic(auto)]
 
 mod calls;
@@ -32,7 +34,7 @@ mod plan;
 mod work;
 
 pub use calls::{
-    advance, apply, bytes, dump, forget, range, set_state, undo_to, value, value_then,
+    advance, apply, bytes, dump, forget, range, set_state, take, undo_to, value, value_then,
 };
 pub use connection::probe;
 pub use marks::Marks;

@@ -1,18 +1,19 @@
 //! What each call is to make of the tables, worked out over what it reads of them.
-ghost use Rattle.std.specs.Prelude.{◌<◌, IfOk};
+ghost use Rattle.std.specs.Prelude.{◌≡◌, ◌<◌, IfOk, IsTrue};
 ghost use Rattle.sqlite.specs.Held.{state};
+ghost use Rattle.fr_mutation.specs.Versioned.{is_rising_from};
 ghost use Rattle.fr_undo.specs.Undo.{extended, undone};
 ghost use Rattle.fr_sql_calls.specs.WorkCalls.{Looks};
 ghost use Rattle.fr_sql_calls.specs.Tables.{state_in, Stands};
-ghost use Rattle.fr_sql_calls.specs.Calls.{LeadsTo};
+ghost use Rattle.fr_sql_calls.specs.Calls.{LeadsTo, taken, work_of};
 
-use crate::known::{held_at, held_by, rows_above};
+use crate::known::{held_at, held_by, held_by_all, rows_above};
 use crate::marks::Marks;
 use crate::work::{MetaWork, RowWork, Work};
 use fr_base::Version;
-use fr_mutation::Batch;
+use fr_mutation::{Batch, VersionedBatch};
 use fr_sql_rows::{Backing, Trouble};
-use fr_undo::{changes_above, changes_of, untouched_law};
+use fr_undo::{Net, Reach, changes_above, changes_of, net_of, untouched_law};
 use sqlite::Connection;
 use std::alloc::Global;
 
@@ -71,4 +72,53 @@ pub(crate) fn plan_undo<S: Backing>(
             floor: marks.floor,
         },
     })
+}
+
+/// What a pull makes of the keys that its batches touch, over what the tables hold. The floor then is the version through
+/// which undo rows are dropped.
+pub(crate) fn net_read<S: Backing>(
+    alloc: Global,
+    conn: &mut Connection<S>,
+    marks: &Marks,
+    reach: &Reach,
+    records: &[VersionedBatch],
+    upto: Version,
+    known: Version,
+) -> Result<Net, Trouble>
+    requires stands { Stands (state S.Store conn.old) marks.now.applied marks.now.floor marks.now.rows }
+    requires reach { reach.now.applied ≡ marks.now.applied }
+    requires rise { IsTrue (is_rising_from 0 records.now) }
+    ensures leads { IfOk result (λ net. LeadsTo (work_of net) (state S.Store conn.old).now
+        (taken (state_in (state S.Store conn.old).now.trees) reach.now.end records.now upto known)) }
+    ensures applied { IfOk result (λ net. net.applied
+        ≡ (taken (state_in (state S.Store conn.old).now.trees) reach.now.end records.now upto known).applied) }
+    ensures floor { IfOk result (λ net. net.floor
+        ≡ (taken (state_in (state S.Store conn.old).now.trees) reach.now.end records.now upto known).floor) }
+    ensures looks { Looks (state S.Store conn.old) (state S.Store conn.new) result }
+{
+    // Read once, for all batches, before the transaction begins (invariant 2).
+    let held = held_by_all(alloc, conn, reach, records)?;
+    // The tree has only the keys that the batches touch, and the plan asks for no others (invariant 3).
+    untouched_law();
+    let net = net_of(alloc, held, reach, marks.floor, records, upto, known)?;
+    Ok(net)
+}
+
+/// The work of a pull. Each key is written once, however many of its batches change it (invariant 8).
+pub(crate) fn work_of(net: Net) -> Work
+    ensures { result ≡ work_of net }
+{
+    Work {
+        changes: net.changes,
+        // No undo row of a version that the same pull forgets is written. At the versions of the others no row stands
+        // yet (invariant 5).
+        rows: RowWork::Renew {
+            through: net.floor,
+            rows: net.rows,
+        },
+        meta: MetaWork::Versions {
+            applied: net.applied,
+            floor: net.floor,
+        },
+    }
 }

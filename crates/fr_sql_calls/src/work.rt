@@ -3,15 +3,16 @@ ghost use Rattle.std.specs.Prelude.{◌≡◌, ◌+◌, None, OnOk, IfOk, IsTrue
 ghost use Rattle.std.specs.FinMap as map;
 ghost use Rattle.sqlite.specs.Held.{state};
 ghost use Rattle.fr_undo.specs.Undo.{same_value};
+ghost use Rattle.fr_undo.specs.Changes.{Changes};
 ghost use Rattle.fr_sql_rows.specs.Rows.{value_in, before_in, undo_in};
 ghost use Rattle.fr_sql_rows.specs.Connection.{IsLaidOut, IsInside, CommitsNothing, Stays, Sets, Notes};
-ghost use Rattle.fr_sql_calls.specs.Work.{Writes, WritesOne, Rows, Meta, Does, Fits, HasRoom, NotesOne, KnowChanged, differs};
+ghost use Rattle.fr_sql_calls.specs.Work.{Writes, WritesOne, Rows, Meta, Does, Fits, HasRoom, AreFree, Adds, NotesOne, KnowChanged, differs};
 
 use fr_base::{Bytes, Version};
 use fr_sql_rows::{Backing, Refused, kv, meta, one_more, undo};
-use fr_undo::Change;
+use fr_undo::{Change, Row};
 use sqlite::Transaction;
-use std::collections::BTreeMap;
+use std::collections::{BTreeMap, VecDeque};
 
 /// What a transaction does with the undo rows.
 #[derive(Debug, Drop)]
@@ -24,6 +25,11 @@ pub enum RowWork {
     DropAbove(Version),
     /// Those through this version go.
     DropThrough(Version),
+    /// Those through a version go, and these come, whose places are free.
+    Renew {
+        through: Version,
+        rows: VecDeque<Row>,
+    },
 }
 
 /// What a transaction writes into the one row of `meta`.
@@ -197,6 +203,78 @@ fn note_all<S: Backing>(
     Ok(count)
 }
 
+/// Adds an undo row at a place that has none, and counts it.
+fn add_row<S: Backing>(
+    tx: &mut Transaction<'_, S>,
+    row: &Row,
+    rows: usize,
+) -> Result<usize, Refused>
+    requires inside { IsInside (state S.Store tx.old.conn.now) }
+    requires laid { IsLaidOut (state S.Store tx.old.conn.now).now }
+    requires absent { before_in ((state S.Store tx.old.conn.now).now.trees 2) row.now.0 ≡ None }
+    ensures same_reference { tx.new.conn.ghost_name ≡ tx.old.conn.ghost_name }
+    ensures ok { OnOk result (Notes row.now.0.0 row.now.0.1 row.now.1 (state S.Store tx.old.conn.now).now (state S.Store tx.new.conn.now).now) }
+    ensures rows { IfOk result (λ more. rows ≡ map.len (undo_in ((state S.Store tx.old.conn.now).now.trees 2))
+        → more ≡ map.len (undo_in ((state S.Store tx.new.conn.now).now.trees 2))) }
+    ensures inside { OnOk result (IsInside (state S.Store tx.new.conn.now)) }
+    ensures stays { Stays (state S.Store tx.old.conn.now) (state S.Store tx.new.conn.now) }
+    ensures survives { CommitsNothing (state S.Store tx.old.conn.now) (state S.Store tx.new.conn.now) }
+{
+    let more = one_more(rows)?;
+    note(tx, row.0.0, &row.0.1, &row.1)?;
+    Ok(more)
+}
+
+/// Adds undo rows, in their order, at places that have none, and counts them.
+fn add_rows<S: Backing>(
+    tx: &mut Transaction<'_, S>,
+    added: &VecDeque<Row>,
+    rows: usize,
+) -> Result<usize, Refused>
+    requires inside { IsInside (state S.Store tx.old.conn.now) }
+    requires laid { IsLaidOut (state S.Store tx.old.conn.now).now }
+    requires free { AreFree added.now.items (state S.Store tx.old.conn.now).now }
+    ensures same_reference { tx.new.conn.ghost_name ≡ tx.old.conn.ghost_name }
+    ensures ok { OnOk result (Adds added.now.items (state S.Store tx.old.conn.now).now (state S.Store tx.new.conn.now).now) }
+    ensures rows { IfOk result (λ more. rows ≡ map.len (undo_in ((state S.Store tx.old.conn.now).now.trees 2))
+        → more ≡ map.len (undo_in ((state S.Store tx.new.conn.now).now.trees 2))) }
+    ensures inside { OnOk result (IsInside (state S.Store tx.new.conn.now)) }
+    ensures stays { Stays (state S.Store tx.old.conn.now) (state S.Store tx.new.conn.now) }
+    ensures survives { CommitsNothing (state S.Store tx.old.conn.now) (state S.Store tx.new.conn.now) }
+{
+    let mut count = rows;
+    for row in added.iter() {
+        let more = add_row(tx, row, count)?;
+        count = more;
+    }
+    Ok(count)
+}
+
+/// Drops the undo rows through a version, adds others, and counts those that are there then.
+fn renew<S: Backing>(
+    tx: &mut Transaction<'_, S>,
+    through: Version,
+    added: &VecDeque<Row>,
+    rows: usize,
+) -> Result<usize, Refused>
+    requires inside { IsInside (state S.Store tx.old.conn.now) }
+    requires laid { IsLaidOut (state S.Store tx.old.conn.now).now }
+    requires free { AreFree added.now.items (state S.Store tx.old.conn.now).now }
+    ensures same_reference { tx.new.conn.ghost_name ≡ tx.old.conn.ghost_name }
+    ensures ok { OnOk result ((changes : Changes)
+        → Rows changes (RowWork.Renew through added.now) (state S.Store tx.old.conn.now).now (state S.Store tx.new.conn.now).now) }
+    ensures rows { IfOk result (λ more. rows ≡ map.len (undo_in ((state S.Store tx.old.conn.now).now.trees 2))
+        → more ≡ map.len (undo_in ((state S.Store tx.new.conn.now).now.trees 2))) }
+    ensures inside { OnOk result (IsInside (state S.Store tx.new.conn.now)) }
+    ensures stays { Stays (state S.Store tx.old.conn.now) (state S.Store tx.new.conn.now) }
+    ensures survives { CommitsNothing (state S.Store tx.old.conn.now) (state S.Store tx.new.conn.now) }
+{
+    // Old rows first, so that the table never holds both.
+    let gone = undo::drop_through(tx, through)?;
+    // The statement tells how many rows went, so none is counted (invariant 4).
+    add_rows(tx, added, rows.saturating_sub(gone))
+}
+
 /// Makes of the undo rows what they are to become, and counts those that are there then.
 fn fill_rows<S: Backing>(
     tx: &mut Transaction<'_, S>,
@@ -228,6 +306,10 @@ fn fill_rows<S: Backing>(
             let gone = undo::drop_through(tx, *version)?;
             Ok(rows.saturating_sub(gone))
         }
+        RowWork::Renew {
+            through,
+            rows: added,
+        } => renew(tx, *through, added, rows),
     }
 }
 

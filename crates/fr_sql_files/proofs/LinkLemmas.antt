@@ -1,10 +1,11 @@
 -- A store in tables, of what its connection answers.
-use Rattle.std.proofs.Common.{◌≡◌, ◌≢◌, ◌↔◌, ◌||◌, Bool, true, false, true≢false, Result, Ok, Err, IfErr, refl, sym, ap, subst, ◌∙◌}
+use Rattle.std.proofs.Common.{◌≡◌, ◌≢◌, ◌↔◌, ◌||◌, Bool, true, false, true≢false, List, Result, Ok, Err, IfErr, refl, sym, ap, subst, ◌∙◌}
 use Rattle.sqlite_trees.specs.declared.store.Store.{Ghosts}
 use Rattle.fr_undo.specs.declared.fault.StoreFault.{StoreFault}
 use Rattle.fr_undo.specs.declared.fault.StoreFault.TheVariants.{Failed}
 use Rattle.fr_undo.specs.State.{StoreState, IsStoreState, fresh}
 use Rattle.fr_undo.specs.Calls.{IsTrouble, is_device, LeavesNoMore, LeftAsIs, Reads, WritesNothing, Writes}
+use Rattle.fr_undo.specs.Pull.{Call, Takes}
 use Rattle.fr_undo.proofs.StateLemmas.{fresh_sound}
 use Rattle.fr_sql_calls.specs.WorkCalls.{MeetsAll}
 use Rattle.fr_sql_store.specs.Tables.{Seen}
@@ -51,8 +52,18 @@ module _ {S K : Type 0} (g : Ghosts S) (keeps : K → StoreState → Type 0) whe
       subst (λ (l : Link S K). Writes (λ (s : TableStore S K). state_of g s.link) (λ (s : TableStore S K). is_failed s.link) (λ (s : TableStore S K). MayLeave g keeps s.link) (record { link = l }) (record { link = l }) (f (state_of g l)) (Err Failed)) (sym is)
       (record { ok = tt; failed = (λ e. refl, λ e. refl); err = λ e. refl; fails = refl; device = λ e. cc; still = λ e x may. may; sound = fresh_sound; left_as_is = λ e. absurd (true≢false e) })
 
+  pub shut_takes : (f : StoreState → List Call) (it : Shut S K) (whole : TableStore S K) → whole.link ≡ link.Shut it
+      → Takes (λ (s : TableStore S K). state_of g s.link) (λ (s : TableStore S K). is_failed s.link) (λ (s : TableStore S K). MayLeave g keeps s.link) whole whole (f (state_of g whole.link)) (Err Failed)
+  shut_takes f it whole is =
+      subst (λ (l : Link S K). Takes (λ (s : TableStore S K). state_of g s.link) (λ (s : TableStore S K). is_failed s.link) (λ (s : TableStore S K). MayLeave g keeps s.link) (record { link = l }) (record { link = l }) (f (state_of g l)) (Err Failed)) (sym is)
+      (record { ok = tt; failed = (λ e. refl, λ e. refl); fails = refl; leaves = λ e. absurd (true≢false e); still = λ e x may. may; left_as_is = λ e. absurd (true≢false e) })
+
   pub shut_told : (it : Shut S K) (l : Link S K) → l ≡ link.Shut it → IsLinkTold l l Failed
   shut_told it l is = subst (λ (m : Link S K). IsLinkTold m m Failed) (sym is) refl
+
+  -- a shut store is never idle, since it has failed
+  pub shut_works : {P : Type 0} (it : Shut S K) (l : Link S K) → l ≡ link.Shut it → is_failed l ≡ false → P
+  shut_works it l is works = absurd (true≢false (failed_shut it l is ∙ works))
 
   -- a shut store refuses no version, since it has failed
   pub shut_refuses : {T : Type 0} (it : Shut S K) (l : Link S K) (fault : StoreFault) (P : StoreState → Type 0) → fault ≢ Failed → l ≡ link.Shut it → (failed_answer {T = T} ≡ Err fault) ↔ ((is_failed l ≡ false) × P (state_of g l))
@@ -63,6 +74,9 @@ module _ {S K : Type 0} (g : Ghosts S) (keeps : K → StoreState → Type 0) whe
 
   pub shown_open : (P : StoreState → Type 0) (old : Seen S) (l : Link S K) → l ≡ link.Open old → P (tables.state_of g old) → P (state_of g l)
   shown_open P old l is h = subst (λ (m : Link S K). P (state_of g m)) (sym is) h
+
+  pub idle_open : (P : StoreState → Type 0) (old : Seen S) (l : Link S K) → l ≡ link.Open old → (old.failed ≡ false → P (tables.state_of g old)) → is_failed l ≡ false → P (state_of g l)
+  idle_open P old l is h = subst (λ (m : Link S K). is_failed m ≡ false → P (state_of g m)) (sym is) h
 
   pub failed_open : (old : Seen S) (answer : Bool) (l : Link S K) → l ≡ link.Open old → answer ≡ old.failed → answer ≡ is_failed l
   failed_open old answer l is h = h ∙ sym (ap is_failed is)
@@ -96,6 +110,13 @@ module _ {S K : Type 0} (g : Ghosts S) (keeps : K → StoreState → Type 0) whe
   writes_open f old new r whole is h =
       subst (λ (l : Link S K). Writes (λ (s : TableStore S K). state_of g s.link) (λ (s : TableStore S K). is_failed s.link) (λ (s : TableStore S K). MayLeave g keeps s.link) (record { link = l }) (record { link = link.Open new }) (f (state_of g l)) r) (sym is)
       (record { ok = h.ok; failed = h.failed; err = h.err; fails = h.fails; device = h.device; still = h.still; sound = h.sound; left_as_is = h.left_as_is })
+
+  pub takes_open : (f : StoreState → List Call) (old new : Seen S) (r : Result (Unit {0}) StoreFault) (whole : TableStore S K) → whole.link ≡ link.Open old
+      → Takes (tables.state_of g) (λ (s : Seen S). s.failed) (tables.MayLeave g) old new (f (tables.state_of g old)) r
+      → Takes (λ (s : TableStore S K). state_of g s.link) (λ (s : TableStore S K). is_failed s.link) (λ (s : TableStore S K). MayLeave g keeps s.link) whole (record { link = link.Open new }) (f (state_of g whole.link)) r
+  takes_open f old new r whole is h =
+      subst (λ (l : Link S K). Takes (λ (s : TableStore S K). state_of g s.link) (λ (s : TableStore S K). is_failed s.link) (λ (s : TableStore S K). MayLeave g keeps s.link) (record { link = l }) (record { link = link.Open new }) (f (state_of g l)) r) (sym is)
+      (record { ok = h.ok; failed = h.failed; fails = h.fails; leaves = h.leaves; still = h.still; left_as_is = h.left_as_is })
 
   -- ---- a store that is opened again
 

@@ -1,9 +1,11 @@
 //! A store in tables that opens them again after a fault.
-ghost use Rattle.std.specs.Prelude.{◌≡◌, ◌≢◌, ◌<◌, ◌≤◌, ◌↔◌, true, false, Err, OnOk, IfOk, IfErr, IfSome, IsNone, IsTrue};
+ghost use Rattle.std.specs.Prelude.{◌≡◌, ◌≢◌, ◌<◌, ◌≤◌, ◌↔◌, true, false, [], Err, OnOk, IfOk, IfErr, IfSome, IsOk, IsNone, IsTrue};
 ghost use Rattle.std.specs.FinMap as map;
 ghost use Rattle.fr_mutation.specs.Shard.{part};
+ghost use Rattle.fr_mutation.specs.Versioned.{is_rising_from};
 ghost use Rattle.fr_undo.specs.Undo.{extended, undone, value_undone, forgotten, advanced, with_bytes};
 ghost use Rattle.fr_undo.specs.Calls.{IsTrouble, LeavesNoMore, Reads, WritesNothing, Writes};
+ghost use Rattle.fr_undo.specs.Pull.{IsCallTrouble, Takes, records_between, take_calls};
 ghost use Rattle.fr_sql_calls.specs.WorkCalls.{MeetsAll};
 ghost use Rattle.fr_sql_store.specs.Tables as tables;
 ghost use Rattle.fr_sql_files.specs.Linked.{IsParted, IsConnected, IsReopened, is_failed, MayLeave, shown_by, has_failed, Leaves, IsTold};
@@ -12,7 +14,7 @@ use crate::shut::{Shut, apart, files_of, found_over};
 use crate::tables::FileTables;
 use core::mem::replace_with;
 use fr_base::{Bytes, Version};
-use fr_mutation::{Batch, Shard};
+use fr_mutation::{Batch, Shard, VersionedBatch};
 use fr_sql_rows::Backing;
 use fr_sql_store::SqlStore;
 use fr_undo::{ShardStore, StoreFault};
@@ -294,6 +296,29 @@ impl<S: FileTables> ShardStore for TableStore<S> {
     {
         match &mut self.link {
             Link::Open(store) => store.forget_through(alloc, version),
+            Link::Shut(_) => Err(StoreFault::Failed),
+        }
+    }
+
+    fn take(
+        &mut self,
+        alloc: Global,
+        records: &[VersionedBatch],
+        end: Option<Version>,
+        upto: Version,
+        known: Version,
+    ) -> Result<(), StoreFault>
+        requires rise { IsTrue (is_rising_from 0 records.now) }
+        ensures takes { Takes (shown_by S.Store) has_failed (Leaves S.Store S.KeptLeaves) self.old self.new
+            (take_calls (shown_by S.Store self.old) end records.now upto known) result }
+        ensures trouble { IfErr result (λ fault. fault ≢ StoreFault.Failed → IsCallTrouble MeetsAll MeetsAll fault) }
+        ensures in_place { records_between (shown_by S.Store self.old).applied end records.now ≡ []
+            → IfErr result (λ fault. fault ≢ StoreFault.Failed → IsTrouble MeetsAll fault) }
+        ensures idle { has_failed self.old ≡ false → take_calls (shown_by S.Store self.old) end records.now upto known ≡ [] → IsOk result }
+        ensures told { IfErr result (IsTold self.old self.new) }
+    {
+        match &mut self.link {
+            Link::Open(store) => store.take(alloc, records, end, upto, known),
             Link::Shut(_) => Err(StoreFault::Failed),
         }
     }

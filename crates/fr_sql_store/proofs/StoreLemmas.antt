@@ -1,5 +1,6 @@
 -- What each call makes of a store, of what it makes of the connection.
-use Rattle.std.proofs.Common.{◌≡◌, ◌≢◌, ◌↔◌, inl, inr, ◌≤◌, ℕ, Bool, true, false, Result, Ok, Err, IfErr, IsTrue, ◌||◌, refl, sym, ap, subst, ◌∙◌, arith}
+use Rattle.std.proofs.Common.{◌≡◌, ◌≢◌, ◌↔◌, inl, inr, ◌≤◌, ℕ, Bool, true, false, List, Result, Ok, Err, IfErr, IsTrue, ◌||◌, refl, sym, ap, subst, ◌∙◌, arith}
+use Rattle.std.specs.Prelude.{Contains}
 use Rattle.std.specs.FinMap as map
 use Rattle.sqlite.specs.Tree.{Trees}
 use Rattle.sqlite.specs.Effect.{Database}
@@ -13,6 +14,8 @@ use Rattle.fr_base.specs.Map.{map_by}
 use Rattle.fr_undo.proofs.StateLemmas.{fresh_sound}
 use Rattle.fr_undo.specs.State.{place_cmp, StoreState, IsStoreState, fresh}
 use Rattle.fr_undo.specs.Calls.{IsTrouble, is_device, met_device, LeftAsIs, Reads, WritesNothing, Writes}
+use Rattle.fr_undo.specs.Pull.{Call, after_calls, stages, Takes}
+use Rattle.fr_undo.proofs.Stages.{first_stage, last_stage}
 use Rattle.fr_sql_rows.specs.Told.{Told}
 use Rattle.fr_sql_rows.specs.Connection.{IsAtRest, IsLaidOut, IsBegun, KeepsIfOpen}
 use Rattle.fr_sql_calls.specs.WorkCalls.{Looks, MeetsAll}
@@ -309,3 +312,54 @@ module _ {S : Type 0} (g : Ghosts S) (law : Lawful g) where
   unmade_by f old conn told fault failed is i works m =
       subst (λ b. WritesOf old (then_seen old conn told b) (f (state_of g old)) (Err fault)) (sym is)
       (subst (λ x. WritesOf old (then_seen old conn told (is_device fault)) (f x) (Err fault)) (sym (shows_tables old works)) (unmade old conn told (f (state_in (at old.conn).now.trees)) fault i works m))
+
+  -- ---- a pull
+
+  abbrev pub TakesOf : Seen S → Seen S → List Call → Result (Unit {0}) StoreFault → Type 0
+  TakesOf old new calls result = Takes (state_of g) (λ (s : Seen S). s.failed) (MayLeave g) old new calls result
+
+  pub takes_not : (old : Seen S) (calls : List Call) → IsStoreOf g old → old.failed ≡ true → TakesOf old old calls (Err Failed)
+  takes_not old calls i failed = record {
+    ok = tt;
+    failed = (λ e. failed, λ e. refl);
+    fails = failed ∙ ap (λ b. b || false) (sym failed);
+    leaves = λ works. absurd (let clash = sym works ∙ failed in cc);
+    still = λ e x may. may;
+    left_as_is = left old i;
+  }
+
+  -- one that is made leaves the last stage
+  pub took : (old new : Seen S) (calls : List Call) (rows : ℕ) → IsStoreOf g new → old.failed ≡ false → new.failed ≡ false → Makes (after_calls (state_in (at old.conn).now.trees) calls) (at old.conn) (at new.conn) (Ok rows) → TakesOf old new calls (Ok tt)
+  took old new calls rows i works still m =
+      let all : state_of g new ≡ after_calls (state_of g old) calls = shows_tables new still ∙ m.made ∙ ap (λ (x : StoreState). after_calls x calls) (sym (shows_tables old works)) in
+      record {
+        ok = all;
+        failed = (λ e. cc, λ e. absurd (let clash = sym works ∙ e in cc));
+        fails = still ∙ sym (ap (λ b. b || false) works);
+        leaves = λ e x may. subst (Contains (stages (state_of g old) calls)) (sym ((left new i still x).0 may ∙ all)) (last_stage (state_of g old) calls);
+        still = λ e. cc;
+        left_as_is = left new i;
+      }
+
+  -- one that is not made leaves the first stage or the last
+  pub took_not : (old : Seen S) (conn : Held S) (told : Told) (calls : List Call) (fault : StoreFault) (failed : Bool) → failed ≡ is_device fault → IsStoreOf g old → old.failed ≡ false
+      → Makes (after_calls (state_in (at old.conn).now.trees) calls) (at old.conn) (at conn) (Err fault) → TakesOf old (then_seen old conn told failed) calls (Err fault)
+  took_not old conn told calls fault failed is i works m =
+      let writes = unmade_by (λ (x : StoreState). after_calls x calls) old conn told fault failed is i works m in
+      record {
+        ok = tt;
+        failed = writes.failed;
+        fails = writes.fails;
+        leaves = λ e x (db, leaves, shows). elim (m.survives.crash (law.clean conn.store) db leaves) [
+          | inl before ↦
+              subst (Contains (stages (state_of g old) calls))
+              (sym (shows ∙ ap state_in (crash_leaves old.conn old.applied old.floor old.rows (stands_of old i works) db before) ∙ sym (shows_tables old works)))
+              (first_stage (state_of g old) calls)
+          | inr stand ↦
+              subst (Contains (stages (state_of g old) calls))
+              (sym (shows ∙ ap state_in stand.3 ∙ stand.2 ∙ ap (λ (x : StoreState). after_calls x calls) (sym (shows_tables old works))))
+              (last_stage (state_of g old) calls)
+        ];
+        still = writes.still;
+        left_as_is = writes.left_as_is;
+      }

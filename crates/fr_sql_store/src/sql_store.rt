@@ -1,10 +1,12 @@
 //! A store in the tables of a database.
-ghost use Rattle.std.specs.Prelude.{◌≡◌, ◌≢◌, ◌<◌, ◌≤◌, ◌↔◌, ◌||◌, false, Err, OnOk, OnErr, IfOk, IfErr};
+ghost use Rattle.std.specs.Prelude.{◌≡◌, ◌≢◌, ◌<◌, ◌≤◌, ◌↔◌, ◌||◌, false, [], Err, OnOk, OnErr, IfOk, IfErr, IsOk, IsTrue};
 ghost use Rattle.std.specs.FinMap as map;
 ghost use Rattle.fr_mutation.specs.Shard.{part};
+ghost use Rattle.fr_mutation.specs.Versioned.{is_rising_from};
 ghost use Rattle.fr_undo.specs.State.{IsStoreState, fresh};
 ghost use Rattle.fr_undo.specs.Undo.{extended, undone, value_undone, forgotten, advanced, with_bytes};
 ghost use Rattle.fr_undo.specs.Calls.{IsTrouble, is_device, met_device, StaysUnlessFailed, LeavesNoMore, LeftAsIs, Reads, WritesNothing, Writes};
+ghost use Rattle.fr_undo.specs.Pull.{IsCallTrouble, Takes, records_between, take_calls};
 ghost use Rattle.fr_sql_rows.specs.Connection.{IsAtRest};
 ghost use Rattle.fr_sql_rows.specs.Schema.{no_schema};
 ghost use Rattle.fr_sql_calls.specs.WorkCalls.{MeetsAll};
@@ -15,9 +17,10 @@ mod files;
 
 pub use files::{OpenFault, SEED};
 use fr_base::{Bytes, Version};
-use fr_mutation::{Batch, Shard};
+use fr_mutation::{Batch, Shard, VersionedBatch};
 use fr_sql_calls::{
-    Marks, advance, apply, bytes, dump, forget, probe, range, set_state, undo_to, value, value_then,
+    Marks, advance, apply, bytes, dump, forget, probe, range, set_state, take, undo_to, value,
+    value_then,
 };
 use fr_sql_rows::{Backing, Refusals, schema};
 use fr_undo::{ShardStore, StoreFault};
@@ -395,6 +398,48 @@ impl<S: Backing> ShardStore for SqlStore<S> {
                     floor: version,
                     rows,
                 };
+                Ok(())
+            }
+            Err(fault) => {
+                self.is_failed = is_device(fault);
+                Err(fault)
+            }
+        }
+    }
+
+    /// As one transaction, so that a crash leaves the store from before or all of it.
+    fn take(
+        &mut self,
+        alloc: Global,
+        records: &[VersionedBatch],
+        end: Option<Version>,
+        upto: Version,
+        known: Version,
+    ) -> Result<(), StoreFault>
+        requires rise { IsTrue (is_rising_from 0 records.now) }
+        ensures takes { Takes (state_of S.Store) has_failed (MayLeave S.Store) self.old self.new
+            (take_calls (state_of S.Store self.old) end records.now upto known) result }
+        ensures trouble { IfErr result (λ fault. fault ≢ StoreFault.Failed → IsCallTrouble MeetsAll MeetsAll fault) }
+        ensures in_place { records_between (state_of S.Store self.old).applied end records.now ≡ []
+            → IfErr result (λ fault. fault ≢ StoreFault.Failed → IsTrouble MeetsAll fault) }
+        ensures idle { has_failed self.old ≡ false → take_calls (state_of S.Store self.old) end records.now upto known ≡ [] → IsOk result }
+        ensures told { IfErr result (IsTold self.old self.new) }
+    {
+        if self.is_failed {
+            return Err(StoreFault::Failed);
+        }
+        match take(
+            alloc,
+            &mut self.conn,
+            &mut self.told,
+            &self.marks,
+            records,
+            end,
+            upto,
+            known,
+        ) {
+            Ok(marks) => {
+                self.marks = marks;
                 Ok(())
             }
             Err(fault) => {

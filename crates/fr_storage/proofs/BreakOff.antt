@@ -3,11 +3,12 @@ use Rattle.std.proofs.Common.{◌≡◌, ℕ, Bool, true, false, nat_lt, ◌&&�
 use Rattle.std.specs.Prelude.{◌==◌, is_some, not}
 use Rattle.std.proofs.lemmas.Bool.{and_parts, eq-eqb}
 use Rattle.fr_undo.specs.State.{StoreState}
+use Rattle.fr_undo.specs.Pull.{Call, is_within, cut_at, records_between, after_calls, LeavesStages}
 use Rattle.fr_state.specs.LookUp.{end_of}
 use Rattle.fr_log.specs.Peeked.{PeekedContent, IsPeeked}
-use Rattle.fr_storage.specs.Storage.{Call, is_within, cut_at, records_between, after_calls, new_records, broken_at, peeked_calls}
+use Rattle.fr_storage.specs.Storage.{new_records, broken_at, peeked_calls}
 use Rattle.fr_storage.specs.Broken.{has_version, stops_at, calls_through}
-use Rattle.fr_storage.specs.Server.{Server, storage_of, LeavesStages}
+use Rattle.fr_storage.specs.Server.{Server, storage_of}
 use Rattle.fr_storage.proofs.Broken.{through, IsBroken, found_is_broken}
 use Rattle.fr_storage.proofs.Stops.{through_new, Stop, stops_here, stops_there, stops_nowhere, at_first}
 

@@ -7,10 +7,11 @@ use Rattle.std.proofs.lemmas.List.{reverse-append}
 use Rattle.std.proofs.lemmas.List.Folds.{find-append}
 use Rattle.fr_base.specs.Bytes.{bytes_eq}
 use Rattle.fr_base.specs.Same.{bytes_eq-IsSameness}
+use Rattle.fr_mutation.specs.declared.versioned.VersionedBatch.{VersionedBatch}
 use Rattle.fr_undo.specs.State.{StoreState}
 use Rattle.fr_undo.specs.Undo.{advanced, forgotten}
-use Rattle.fr_log.specs.declared.records.PeekedRecord.{PeekedRecord}
-use Rattle.fr_storage.specs.Storage.{Call, Advance, Forget, called, after_calls, stages, is_broken_at, broken_at, reached, apply_of, advance_calls, forget_calls}
+use Rattle.fr_undo.specs.Pull.{Call, Advance, Forget, called, after_calls, stages, reached, apply_of, advance_calls, forget_calls}
+use Rattle.fr_storage.specs.Storage.{is_broken_at, broken_at}
 use Rattle.fr_storage.specs.Broken.{has_version}
 
 -- ---- the last stage at a version
@@ -107,17 +108,17 @@ other_bytes s v t ne = ap (λ (b : Bool). cond b (Some t) None) (and_right (t.ap
 -- ---- records that rise
 
 -- versions rise strictly above one
-abbrev pub Rises : ℕ → List PeekedRecord → Type 0
+abbrev pub Rises : ℕ → List VersionedBatch → Type 0
 Rises v [] = Unit {0}
 Rises v (r ∷ rs) = (v < r.version) × Rises r.version rs
 
 -- versions are at most one
-abbrev pub Bounded : ℕ → List PeekedRecord → Type 0
+abbrev pub Bounded : ℕ → List VersionedBatch → Type 0
 Bounded v [] = Unit {0}
 Bounded v (r ∷ rs) = (r.version ≤ v) × Bounded v rs
 
 -- the records through a version
-abbrev pub through : ℕ → List PeekedRecord → List PeekedRecord
+abbrev pub through : ℕ → List VersionedBatch → List VersionedBatch
 through v rs = filter (λ r. nat_le r.version v) rs
 
 or_none : (b : Bool) → (b || false) ≡ true → b ≡ true
@@ -125,14 +126,14 @@ or_none true e = refl
 or_none false e = e
 
 -- of records that all are above a version none is through it
-none_through : (v w : ℕ) (rs : List PeekedRecord) → Rises w rs → v ≤ w → through v rs ≡ []
+none_through : (v w : ℕ) (rs : List VersionedBatch) → Rises w rs → v ≤ w → through v rs ≡ []
 none_through v w [] rises le = refl
 none_through v w (r ∷ rs) rises le =
     let up = rises.0 in
     rw (lt-leb r.version v (omega arith)) (none_through v r.version rs rises.1 (omega arith))
 
 -- and none has it
-none_of : (v w : ℕ) (rs : List PeekedRecord) → Rises w rs → v ≤ w → has_version v rs ≡ false
+none_of : (v w : ℕ) (rs : List VersionedBatch) → Rises w rs → v ≤ w → has_version v rs ≡ false
 none_of v w [] rises le = refl
 none_of v w (r ∷ rs) rises le =
     let up = rises.0 in
@@ -157,7 +158,7 @@ module _ (s : StoreState) (v target known : ℕ) where
   beyond a = advance_calls a target ++ forget_calls s.floor known
 
   -- the calls of records, and those beyond them
-  abbrev pub all_calls : ℕ → List PeekedRecord → List Call
+  abbrev pub all_calls : ℕ → List VersionedBatch → List Call
   all_calls a rs = map apply_of rs ++ beyond (reached a rs)
 
   beyond_below : (t : StoreState) → Keeps s t → v < t.applied → last_at s v t (beyond t.applied) ≡ None
@@ -201,21 +202,21 @@ module _ (s : StoreState) (v target known : ℕ) where
   -- ---- the calls of records that rise
 
   -- at an earlier version nothing is broken off
-  pub below : (t : StoreState) (rs : List PeekedRecord) → Keeps s t → Rises t.applied rs → v < t.applied → last_at s v t (all_calls t.applied rs) ≡ None
+  pub below : (t : StoreState) (rs : List VersionedBatch) → Keeps s t → Rises t.applied rs → v < t.applied → last_at s v t (all_calls t.applied rs) ≡ None
   below t [] keeps rises lt = beyond_below t keeps lt
   below t (r ∷ rs) keeps rises lt =
       let up = rises.0 in
       rw (below (called t (apply_of r)) rs (record { floor = keeps.floor; bytes = keeps.bytes }) rises.1 (omega arith)) (at_other s v t keeps (λ e. omega arith))
 
   -- a store is broken off at its own version where it is
-  pub here : (t : StoreState) (rs : List PeekedRecord) → Keeps s t → Rises t.applied rs → t.applied ≡ v → last_at s v t (all_calls t.applied rs) ≡ Some t
+  pub here : (t : StoreState) (rs : List VersionedBatch) → Keeps s t → Rises t.applied rs → t.applied ≡ v → last_at s v t (all_calls t.applied rs) ≡ Some t
   here t [] keeps rises e = beyond_here t keeps e
   here t (r ∷ rs) keeps rises e =
       let up = rises.0 in
       rw (below (called t (apply_of r)) rs (record { floor = keeps.floor; bytes = keeps.bytes }) rises.1 (omega arith)) (at_own s v t keeps e)
 
   -- at a later version that is none of the records' and not the target it is not broken off
-  pub missing : (t : StoreState) (rs : List PeekedRecord) → Keeps s t → Rises t.applied rs → t.applied < v → (target ≡ v → ⊥) → has_version v rs ≡ false → last_at s v t (all_calls t.applied rs) ≡ None
+  pub missing : (t : StoreState) (rs : List VersionedBatch) → Keeps s t → Rises t.applied rs → t.applied < v → (target ≡ v → ⊥) → has_version v rs ≡ false → last_at s v t (all_calls t.applied rs) ≡ None
   missing t [] keeps rises lt ne none = beyond_missing t keeps lt ne
   missing t (r ∷ rs) keeps rises lt ne none =
       let parts = or_parts (r.version == v) (has_version v rs) none in
@@ -228,11 +229,11 @@ module _ (s : StoreState) (v target known : ℕ) where
       rw after (at_other s v t keeps (λ e. omega arith))
 
   -- the calls through a version
-  abbrev pub first_calls : ℕ → List PeekedRecord → List Call
+  abbrev pub first_calls : ℕ → List VersionedBatch → List Call
   first_calls a rs = map apply_of (through v rs) ++ advance_calls (reached a (through v rs)) v
 
   -- the first calls lead to where all of them break off at the version
-  pub record Leads (t : StoreState) (rs : List PeekedRecord) : Type 0 where
+  pub record Leads (t : StoreState) (rs : List VersionedBatch) : Type 0 where
     pub found : last_at s v t (all_calls t.applied rs) ≡ Some (after_calls t (first_calls t.applied rs))
     pub more : List Call
     pub is : all_calls t.applied rs ≡ first_calls t.applied rs ++ more
@@ -253,15 +254,15 @@ module _ (s : StoreState) (v target known : ℕ) where
       test : (n : ℕ) → nat_lt t.applied n ≡ true → advance_calls t.applied n ≡ Advance n ∷ []
       test n e = ap (λ (b : Bool). cond b (Advance n ∷ []) []) e
 
-  pub leads : (t : StoreState) (rs : List PeekedRecord) → Keeps s t → Rises t.applied rs → Bounded target rs → t.applied < v → ((v == target) || has_version v rs) ≡ true → Leads t rs
+  pub leads : (t : StoreState) (rs : List VersionedBatch) → Keeps s t → Rises t.applied rs → Bounded target rs → t.applied < v → ((v == target) || has_version v rs) ≡ true → Leads t rs
   leads t [] keeps rises bounded lt stops = leads_beyond t keeps lt (sym (eqb-true v target (or_none (v == target) stops)))
   leads t (r ∷ rs) keeps rises bounded lt stops = elim (cases_order r.version v) [
     | inl e ↦
         let none : through v rs ≡ [] = none_through v r.version rs rises.1 (omega arith) in
-        let first : through v (r ∷ rs) ≡ r ∷ [] = rw (le-leb r.version v (omega arith)) (ap (λ (xs : List PeekedRecord). r ∷ xs) none) in
+        let first : through v (r ∷ rs) ≡ r ∷ [] = rw (le-leb r.version v (omega arith)) (ap (λ (xs : List VersionedBatch). r ∷ xs) none) in
         let no_advance : advance_calls r.version v ≡ [] = ap (λ (b : Bool). cond b (Advance v ∷ []) []) (le-ltb r.version v (omega arith)) in
         let calls : first_calls t.applied (r ∷ rs) ≡ apply_of r ∷ [] =
-        ap (λ (xs : List PeekedRecord). map apply_of xs ++ advance_calls (reached t.applied xs) v) first ∙ ap (λ (xs : List Call). apply_of r ∷ xs) no_advance in
+        ap (λ (xs : List VersionedBatch). map apply_of xs ++ advance_calls (reached t.applied xs) v) first ∙ ap (λ (xs : List Call). apply_of r ∷ xs) no_advance in
         record {
           found =
               ap (λ (o : Option StoreState). option_or o (here_at s v t)) (here (called t (apply_of r)) rs keeps2 rises.1 e)
@@ -272,7 +273,7 @@ module _ (s : StoreState) (v target known : ℕ) where
     | inr (inl under) ↦
         let first : through v (r ∷ rs) ≡ r ∷ through v rs = rw (le-leb r.version v (omega arith)) refl in
         let calls : first_calls t.applied (r ∷ rs) ≡ apply_of r ∷ first_calls r.version rs =
-        ap (λ (xs : List PeekedRecord). map apply_of xs ++ advance_calls (reached t.applied xs) v) first in
+        ap (λ (xs : List VersionedBatch). map apply_of xs ++ advance_calls (reached t.applied xs) v) first in
         let rest : Leads (called t (apply_of r)) rs = leads (called t (apply_of r)) rs keeps2 rises.1 bounded.1 under (sym (ap (λ (b : Bool). (v == target) || (b || has_version v rs)) (ne_eqb r.version v (λ e. omega arith))) ∙ stops) in
         record {
           found =

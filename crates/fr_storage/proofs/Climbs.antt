@@ -6,7 +6,8 @@ use Rattle.std.proofs.lemmas.Bool.{and_left, and_right, ne_eqb}
 use Rattle.fr_base.specs.Bytes.{bytes_eq}
 use Rattle.fr_base.specs.Same.{bytes_eq-IsSameness}
 use Rattle.fr_undo.specs.State.{StoreState}
-use Rattle.fr_storage.specs.Storage.{Call, called, after_calls, stages, broken_at}
+use Rattle.fr_undo.specs.Pull.{Call, called, after_calls, stages}
+use Rattle.fr_storage.specs.Storage.{broken_at}
 use Rattle.fr_storage.proofs.Broken.{Keeps, at_other, at_own, broken_is_last, here_at, last_at}
 
 -- a store of which rows are forgotten is broken off nowhere

@@ -2,8 +2,9 @@
 use Rattle.std.proofs.Common.{◌≡◌, List, Option, None, Some, refl, sym, ap, ◌∙◌}
 use Rattle.std.specs.Prelude.{◌&&◌, is_some, not, unwrap_or}
 use Rattle.fr_undo.specs.State.{StoreState, IsStoreState}
+use Rattle.fr_undo.specs.Pull.{Call}
 use Rattle.fr_storage.specs.declared.fault.StorageFault.{StorageFault}
-use Rattle.fr_storage.specs.Storage.{StorageState, Call, broken_at}
+use Rattle.fr_storage.specs.Storage.{StorageState, broken_at}
 use Rattle.fr_storage.specs.Taken.{IsPart}
 
 -- a server over what is found of calls that broke off at its version

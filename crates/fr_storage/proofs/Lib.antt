@@ -1,4 +1,3 @@
-pub mod Applied
 pub mod Between
 pub mod BreakOff
 pub mod Breaks
@@ -6,7 +5,6 @@ pub mod Broken
 pub mod Course
 pub mod Generations
 pub mod Hears
-pub mod Left
 pub mod MarkOff
 pub mod Rollback
 pub mod Peeked

@@ -4,11 +4,12 @@ use Rattle.std.specs.Prelude.{◌==◌, unwrap_or}
 use Rattle.std.specs.Option.{option_or}
 use Rattle.fr_undo.specs.State.{StoreState}
 use Rattle.fr_undo.specs.Undo.{undone, with_bytes}
+use Rattle.fr_undo.specs.Pull.{Call, UndoTo, SetState}
 use Rattle.fr_state.specs.Generations.{CoordinatedState, IsCoordinatedState}
 use Rattle.fr_state.specs.Laws.{OneSpellingOneState}
 use Rattle.fr_state.specs.Same.{is_same_state, is_same_state_equiv}
 use Rattle.fr_state.specs.Spelling.{spelling}
-use Rattle.fr_storage.specs.Storage.{Call, UndoTo, SetState, own_epoch, cut_in, broken_at, marked_calls}
+use Rattle.fr_storage.specs.Storage.{own_epoch, cut_in, broken_at, marked_calls}
 use Rattle.fr_storage.specs.Server.{Server, storage_of, IsServer}
 use Rattle.fr_storage.proofs.Broken.{here_at, broken_is_last, Keeps, keeps_itself, plain, at_own, at_other, other_bytes}
 use Rattle.fr_storage.proofs.Servers.{moves}

@@ -5,13 +5,14 @@ use Rattle.std.specs.Option.{option_or}
 use Rattle.std.proofs.lemmas.Bool.{eqb-true}
 use Rattle.fr_undo.specs.State.{StoreState}
 use Rattle.fr_undo.specs.Undo.{undone, with_bytes}
+use Rattle.fr_undo.specs.Pull.{Call, UndoTo, SetState, after_calls, stages}
 use Rattle.fr_undo.proofs.StateLemmas.{undone_nothing}
 use Rattle.fr_state.specs.Generations.{CoordinatedState, IsCoordinatedState}
 use Rattle.fr_state.specs.Laws.{OneSpellingOneState, SameIsEqual}
 use Rattle.fr_state.specs.Same.{is_same_state}
 use Rattle.fr_state.specs.Spelling.{spelling}
 use Rattle.fr_storage.specs.declared.fault.StorageFault.{StorageFault}
-use Rattle.fr_storage.specs.Storage.{StorageState, Call, UndoTo, SetState, own_epoch, cut_in, after_calls, stages, broken_at, marked_fault, marked_calls, after_marked, unless_fault}
+use Rattle.fr_storage.specs.Storage.{StorageState, own_epoch, cut_in, broken_at, marked_fault, marked_calls, after_marked, unless_fault}
 use Rattle.fr_storage.specs.Course.{IsReopened}
 use Rattle.fr_storage.proofs.Broken.{Keeps, at_own, broken_is_last, here_at, keeps_itself, other_bytes, plain}
 use Rattle.fr_storage.specs.Taken.{IsPart}

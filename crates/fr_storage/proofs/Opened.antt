@@ -2,13 +2,13 @@
 use Rattle.std.proofs.Common.{◌≡◌, true, List, None, refl, ◌∙◌}
 use Rattle.std.specs.Prelude.{Result, Ok, Err, OnErr, IsOk}
 use Rattle.fr_undo.specs.State.{StoreState}
+use Rattle.fr_undo.specs.Pull.{Call, LeavesStages}
 use Rattle.fr_state.specs.Generations.{IsCoordinatedState}
 use Rattle.fr_state.specs.Spelling.{spelling}
 use Rattle.fr_storage.specs.declared.fault.StorageFault.{StorageFault}
 use Rattle.fr_storage.specs.declared.fault.StorageFault.TheVariants.{Older, Stranger, BelowFloor, NotMyGeneration, Hole, Store, BadState}
-use Rattle.fr_storage.specs.Storage.{Call}
 use Rattle.fr_storage.specs.Course.{IsReopened}
-use Rattle.fr_storage.specs.Server.{Server, LeavesStages, met_store, refusal_of, storage_of}
+use Rattle.fr_storage.specs.Server.{Server, met_store, refusal_of, storage_of}
 
 -- where the store failed nothing is refused
 pub none_refused : {T : Type 0} (r : Result T StorageFault) → met_store r ≡ true → refusal_of r ≡ None

@@ -1,17 +1,18 @@
 -- Position and floor after each hear.
 use Rattle.std.proofs.Common.{◌≡◌, ℕ, ◌≤◌, Bool, true, false, cond, max, min, nat_lt, ◌&&◌, List, [], ◌∷◌, Option, None, Some, refl, sym, ap, ◌∙◌, arith}
 use Rattle.std.proofs.lemmas.Bool.{and_parts, ltb-true, ltb-false}
+use Rattle.fr_mutation.specs.declared.versioned.VersionedBatch.{VersionedBatch}
 use Rattle.fr_undo.specs.State.{StoreState}
+use Rattle.fr_undo.specs.Pull.{Call, UndoTo, SetState, Forget, after_calls, records_between, is_within, reached, forget_calls}
 use Rattle.fr_state.specs.LookUp.{end_of}
 use Rattle.fr_state.specs.Same.{is_same_state}
 use Rattle.fr_state.specs.Spelling.{spelling}
-use Rattle.fr_log.specs.declared.records.PeekedRecord.{PeekedRecord}
 use Rattle.fr_log.specs.Peeked.{PeekedContent}
 use Rattle.fr_storage.specs.declared.fault.StorageFault.{StorageFault}
-use Rattle.fr_storage.specs.Storage.{StorageState, Call, UndoTo, SetState, Forget, after_calls, own_epoch, cut_in, marked_fault, marked_calls, records_between, is_within, reached, reached_by, new_records, target_of, forget_calls, peeked_fault, peeked_calls, after_peeked, unless_fault}
+use Rattle.fr_storage.specs.Storage.{StorageState, own_epoch, cut_in, marked_fault, marked_calls, reached_by, new_records, target_of, peeked_fault, peeked_calls, after_peeked, unless_fault}
 use Rattle.fr_storage.specs.Position.{MarkedApplied, MarkedFloor, PeekedApplied, PeekedRises, PeekedFloor}
-use Rattle.fr_storage.proofs.Left.{applied_after, floor_after, applied_advanced, floor_advanced}
-use Rattle.fr_storage.proofs.Pulls.{applies, advances, forgets, ends}
+use Rattle.fr_undo.proofs.Stages.{applied_after, floor_after, applied_advanced, floor_advanced}
+use Rattle.fr_undo.proofs.Takes.{applies, advances, forgets, ends}
 use Rattle.fr_storage.proofs.Servers.{taken, moves}
 
 -- ---- a state
@@ -51,16 +52,16 @@ module _ (s : StorageState) (epoch : ℕ) (peeked : PeekedContent) where
   end = end_of s.state.gens epoch
 
   abbrev first : StoreState
-  first = after_calls s.store (applies s.store end peeked)
+  first = after_calls s.store (applies s.store end peeked.records peeked.upto peeked.known)
 
   abbrev second : StoreState
-  second = after_calls first (advances s.store end peeked first)
+  second = after_calls first (advances s.store end peeked.records peeked.upto peeked.known first)
 
   abbrev last : StoreState
-  last = after_calls second (forgets s.store end peeked second)
+  last = after_calls second (forgets s.store end peeked.records peeked.upto peeked.known second)
 
   last_is : last ≡ after_calls s.store (peeked_calls s epoch peeked)
-  last_is = ends s.store end peeked first second last refl refl refl
+  last_is = ends s.store end peeked.records peeked.upto peeked.known first second last refl refl refl
 
   second_applied : second.applied ≡ max (reached_by s epoch peeked) (target_of s epoch peeked)
   second_applied = applied_advanced first (target_of s epoch peeked) ∙ ap (λ (n : ℕ). max n (target_of s epoch peeked)) (applied_after s.store (new_records s epoch peeked))
@@ -90,7 +91,7 @@ peeked_floor s epoch peeked none =
     ∙ ap (λ (t : StoreState). max s.store.floor (min peeked.known t.applied)) (sym (whole_is s epoch peeked none))
 
 -- new records are above the version applied, so where they lead is not below it
-reached_rises : (a v : ℕ) (e : Option ℕ) (rs : List PeekedRecord) → a ≤ v → a ≤ reached v (records_between a e rs)
+reached_rises : (a v : ℕ) (e : Option ℕ) (rs : List VersionedBatch) → a ≤ v → a ≤ reached v (records_between a e rs)
 reached_rises a v e [] le = le
 reached_rises a v e (r ∷ rs) le = go (nat_lt a r.version && is_within e r.version) refl (reached_rises a v e rs le) (λ above. reached_rises a r.version e rs above)
   where

@@ -7,13 +7,14 @@ use Rattle.std.proofs.lemmas.List.Elements.{All-from_recursion}
 use Rattle.fr_undo.specs.State.{StoreState}
 use Rattle.fr_undo.specs.Undo.{undone, with_bytes}
 use Rattle.fr_undo.specs.Canonical.{Commit, canonical}
+use Rattle.fr_undo.specs.Pull.{Call, UndoTo, SetState, stages, after_calls}
 use Rattle.fr_state.specs.Generations.{CoordinatedState}
 use Rattle.fr_state.specs.LookUp.{cut_of}
 use Rattle.fr_state.specs.Same.{is_same_state, GoesOn}
 use Rattle.fr_state.specs.Spelling.{spelling}
 use Rattle.fr_storage.specs.declared.fault.StorageFault.{StorageFault}
 use Rattle.fr_storage.specs.declared.fault.StorageFault.TheVariants.{Older}
-use Rattle.fr_storage.specs.Storage.{StorageState, Call, UndoTo, SetState, own_epoch, cut_in, stages, after_calls, marked_fault, marked_calls, after_marked, unless_fault, is_stranger}
+use Rattle.fr_storage.specs.Storage.{StorageState, own_epoch, cut_in, marked_fault, marked_calls, after_marked, unless_fault, is_stranger}
 use Rattle.fr_storage.specs.Follows.{Pieces, ArePieces, HasPieces, Follows, IsTrueMark}
 use Rattle.fr_storage.specs.Laws.{Laws}
 use Rattle.fr_storage.specs.Law.{IsMarkStage, MarkedLeads, MarkedFollows}

@@ -1,20 +1,21 @@
 -- A storage server whose store was called.
 use Rattle.std.proofs.Common.{◌≡◌, ℕ, ◌+◌, zero, suc, Bool, true, false, cond, nat_lt, List, [], ◌∷◌, ◌++◌, map, Option, None, Some, refl, sym, ap, ◌∙◌, subst, arith}
 use Rattle.std.specs.Prelude.{Contains, IfSome, not, Err}
+use Rattle.fr_mutation.specs.declared.versioned.VersionedBatch.{VersionedBatch}
 use Rattle.fr_undo.specs.State.{StoreState}
-use Rattle.fr_log.specs.declared.records.PeekedRecord.{PeekedRecord}
 use Rattle.fr_log.specs.Peeked.{PeekedContent}
 use Rattle.fr_state.specs.Generations.{CoordinatedState, IsCoordinatedState}
 use Rattle.fr_state.specs.Same.{is_same_state}
 use Rattle.fr_state.specs.Spelling.{spelling}
 use Rattle.fr_state.specs.LookUp.{source_of, end_of}
 use Rattle.fr_undo.specs.declared.fault.StoreFault.{StoreFault}
+use Rattle.fr_undo.specs.Pull.{Call, Advance, Forget, UndoTo, SetState, called, after_calls, stages, apply_of, advance_calls, forget_calls, records_between, reached, cut_at, IsWhole, LeavesStages}
 use Rattle.fr_storage.specs.declared.fault.StorageFault.{StorageFault}
 use Rattle.fr_storage.specs.declared.fault.StorageFault.TheVariants.{Older, Stranger, BelowFloor, NotMyGeneration, Hole, Store}
-use Rattle.fr_storage.specs.Storage.{StorageState, Call, Advance, Forget, UndoTo, SetState, called, after_calls, stages, apply_of, advance_calls, forget_calls, records_between, reached, cut_at, cut_in, own_epoch, is_stranger, marked_fault, marked_calls, is_epoch, peeked_fault, peeked_calls, unless_fault}
-use Rattle.fr_storage.specs.Server.{Server, storage_of, store_fault, IsSpelled, IsServer, IsWhole, LeavesStages}
+use Rattle.fr_storage.specs.Storage.{StorageState, cut_in, own_epoch, is_stranger, marked_fault, marked_calls, is_epoch, peeked_fault, peeked_calls, unless_fault}
+use Rattle.fr_storage.specs.Server.{Server, storage_of, store_fault, IsSpelled, IsServer}
 use Rattle.fr_storage.specs.Pull.{pull_calls}
-use Rattle.fr_storage.proofs.Left.{first_stage, last_stage, one_stage}
+use Rattle.fr_undo.proofs.Stages.{first_stage, last_stage, one_stage}
 
 -- ---- which bytes the stages have
 
@@ -27,7 +28,7 @@ keep_both : (calls more : List Call) → KeepBytes calls → KeepBytes more → 
 keep_both [] more h k = k
 keep_both (call ∷ calls) more h k = (h.0, keep_both calls more h.1 k)
 
-keep_applies : (rs : List PeekedRecord) → KeepBytes (map apply_of rs)
+keep_applies : (rs : List VersionedBatch) → KeepBytes (map apply_of rs)
 keep_applies [] = tt
 keep_applies (r ∷ rs) = ((λ s. refl), keep_applies rs)
 

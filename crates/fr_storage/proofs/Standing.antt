@@ -4,13 +4,14 @@ use Rattle.std.specs.Prelude.{◌≢◌, ◌↔◌, IfSome, IsTrue, Contains, dr
 use Rattle.fr_undo.specs.declared.fault.StoreFault.TheVariants.{Failed}
 use Rattle.fr_undo.specs.State.{StoreState}
 use Rattle.fr_undo.specs.Calls.{LeavesNoMore}
+use Rattle.fr_undo.specs.Pull.{LeavesStages}
 use Rattle.fr_state.specs.Generations.{CoordinatedState, IsCoordinatedState}
 use Rattle.fr_state.specs.Spelling.{spelling}
 use Rattle.fr_storage.specs.declared.answer.LogAnswer.{LogAnswer}
 use Rattle.fr_storage.specs.declared.fault.StorageFault.{StorageFault}
 use Rattle.fr_storage.specs.declared.fault.StorageFault.TheVariants.{Older, Stranger, BelowFloor, NotMyGeneration, Hole, Store, BadState}
 use Rattle.fr_storage.specs.Storage.{StorageState}
-use Rattle.fr_storage.specs.Server.{Server, Kept, IsServer, storage_of, kept_of, met_store, refusal_of, LeavesStages}
+use Rattle.fr_storage.specs.Server.{Server, Kept, IsServer, storage_of, kept_of, met_store, refusal_of}
 use Rattle.fr_storage.specs.Follows.{Pieces, ArePieces}
 use Rattle.fr_storage.specs.Course.{Heard, Mark, Records, Nothing, fault_of, calls_of, after_hear, IsAfter, AreOneChain, IsTrueHeard, AreTrueAhead, Stands, IsChosenBy, HearStands}
 use Rattle.fr_storage.specs.Laws.{Laws}

@@ -4,14 +4,15 @@ use Rattle.std.specs.Prelude.{◌⊎◌, ◌==◌, Contains}
 use Rattle.std.specs.List.{list_all}
 use Rattle.std.proofs.lemmas.Bool.{and_parts, and_from, and_right, or_parts, cases_order, cases_Bool, eq-eqb, ne_eqb, leb-true, le-leb, lt-ltb, ltb-true}
 use Rattle.std.proofs.lemmas.List.{append_assoc}
+use Rattle.fr_mutation.specs.declared.versioned.VersionedBatch.{VersionedBatch}
+use Rattle.fr_mutation.specs.Versioned.{is_rising_from}
 use Rattle.fr_undo.specs.State.{StoreState}
-use Rattle.fr_log.specs.declared.records.PeekedRecord.{PeekedRecord}
-use Rattle.fr_log.specs.Peeked.{PeekedContent, IsPeeked, is_rising_from}
-use Rattle.fr_storage.specs.Storage.{Call, after_calls, stages, broken_at, is_within, cut_at, records_between, reached, apply_of, advance_calls, forget_calls}
+use Rattle.fr_undo.specs.Pull.{Call, after_calls, stages, is_within, cut_at, records_between, reached, apply_of, advance_calls, forget_calls, LeavesStages}
+use Rattle.fr_log.specs.Peeked.{PeekedContent, IsPeeked}
+use Rattle.fr_storage.specs.Storage.{broken_at}
 use Rattle.fr_storage.specs.Broken.{has_version, stops_at, calls_through}
 use Rattle.fr_storage.specs.Pull.{pull_calls}
-use Rattle.fr_storage.specs.Server.{LeavesStages}
-use Rattle.fr_storage.proofs.Left.{front_stages}
+use Rattle.fr_undo.proofs.Stages.{front_stages}
 use Rattle.fr_storage.proofs.Pulls.{rise}
 use Rattle.fr_storage.proofs.Broken.{keeps_itself, Rises, Bounded, through, Leads, all_calls, first_calls, broken_is_last, last_at, below, here, missing, leads}
 
@@ -32,10 +33,10 @@ under_target (Some e) u upto is le = let within = leb-true u e is in omega arith
 -- ---- the new records
 
 module _ (a : ℕ) (end : Option ℕ) where
-  takes : PeekedRecord → Bool
+  takes : VersionedBatch → Bool
   takes r = nat_lt a r.version && is_within end r.version
 
-  new_rise : (low v : ℕ) (rs : List PeekedRecord) → IsTrue (is_rising_from low rs) → (v < low) ⊎ (v ≤ a) → Rises v (records_between a end rs)
+  new_rise : (low v : ℕ) (rs : List VersionedBatch) → IsTrue (is_rising_from low rs) → (v < low) ⊎ (v ≤ a) → Rises v (records_between a end rs)
   new_rise low v [] rises le = tt
   new_rise low v (r ∷ rs) rises le =
       go (nat_lt a r.version && is_within end r.version) refl (new_rise (r.version + 1) r.version rs parts.1 (inl (omega arith))) (new_rise (r.version + 1) v rs parts.1 next)
@@ -62,7 +63,7 @@ module _ (a : ℕ) (end : Option ℕ) where
       go true is rest passed = (above (ltb-true a r.version (and_parts (nat_lt a r.version) (is_within end r.version) is).0), rest)
       go false is rest passed = passed
 
-  new_bounded : (upto : ℕ) (rs : List PeekedRecord) → IsTrue (list_all (λ r. nat_le r.version upto) rs) → Bounded (cut_at end upto) (records_between a end rs)
+  new_bounded : (upto : ℕ) (rs : List VersionedBatch) → IsTrue (list_all (λ r. nat_le r.version upto) rs) → Bounded (cut_at end upto) (records_between a end rs)
   new_bounded upto [] all = tt
   new_bounded upto (r ∷ rs) all = go (nat_lt a r.version && is_within end r.version) refl (new_bounded upto rs parts.1)
     where
@@ -76,7 +77,7 @@ module _ (a : ℕ) (end : Option ℕ) where
       go false is rest = rest
 
   -- among the new ones a version is found that is found among all, if it is new
-  has_new : (v : ℕ) (rs : List PeekedRecord) → a < v → is_within end v ≡ true → has_version v (records_between a end rs) ≡ has_version v rs
+  has_new : (v : ℕ) (rs : List VersionedBatch) → a < v → is_within end v ≡ true → has_version v (records_between a end rs) ≡ has_version v rs
   has_new v [] lt within = refl
   has_new v (r ∷ rs) lt within = go (nat_lt a r.version && is_within end r.version) refl (has_new v rs lt within)
     where
@@ -89,7 +90,7 @@ module _ (a : ℕ) (end : Option ℕ) where
           rest ∙ sym (ap (λ (b : Bool). b || has_version v rs) (ne_eqb r.version v other))
 
   -- beyond the end none is found
-  has_out : (v : ℕ) (rs : List PeekedRecord) → is_within end v ≡ false → has_version v (records_between a end rs) ≡ false
+  has_out : (v : ℕ) (rs : List VersionedBatch) → is_within end v ≡ false → has_version v (records_between a end rs) ≡ false
   has_out v [] out = refl
   has_out v (r ∷ rs) out = go (nat_lt a r.version && is_within end r.version) refl (has_out v rs out)
     where
@@ -101,7 +102,7 @@ module _ (a : ℕ) (end : Option ℕ) where
       go false is rest = rest
 
   -- the new ones through a version are those that lie between
-  pub through_new : (v : ℕ) (rs : List PeekedRecord) → is_within end v ≡ true → records_between a (Some v) rs ≡ through v (records_between a end rs)
+  pub through_new : (v : ℕ) (rs : List VersionedBatch) → is_within end v ≡ true → records_between a (Some v) rs ≡ through v (records_between a end rs)
   through_new v [] within = refl
   through_new v (r ∷ rs) within = go (through_new v rs within) (nat_le r.version v) refl (nat_lt a r.version)
     where
@@ -121,7 +122,7 @@ module _ (a : ℕ) (end : Option ℕ) where
       go rest true is true =
           let within2 : is_within end r.version ≡ true = within_lower end r.version v (leb-true r.version v is) within in
           ap (λ (b : Bool). cond b (r ∷ records_between a (Some v) rs) (records_between a (Some v) rs)) is
-          ∙ ap (λ (xs : List PeekedRecord). r ∷ xs) rest
+          ∙ ap (λ (xs : List VersionedBatch). r ∷ xs) rest
           ∙ sym (kept is)
           ∙ sym (ap (λ (b : Bool). through v (cond b (r ∷ records_between a end rs) (records_between a end rs))) within2)
       go rest true is false = rest
@@ -133,7 +134,7 @@ module _ (a : ℕ) (end : Option ℕ) where
 -- ---- the answer
 
 module _ (s : StoreState) (end : Option ℕ) (peeked : PeekedContent) (is : IsPeeked peeked) (v : ℕ) where
-  abbrev new : List PeekedRecord
+  abbrev new : List VersionedBatch
   new = records_between s.applied end peeked.records
 
   abbrev target : ℕ
@@ -169,7 +170,7 @@ module _ (s : StoreState) (end : Option ℕ) (peeked : PeekedContent) (is : IsPe
       let way : Leads s v target known s new = leads s v target known s new (keeps_itself s) rises (new_bounded s.applied end peeked.upto peeked.records is.within) lt
       (ap (λ (b : Bool). (v == target) || b) (has_new s.applied end v peeked.records lt lies.1) ∙ parts.1) in
       let part : first_calls s v target known s.applied new ≡ calls_through s v peeked.records =
-      ap (λ (rs : List PeekedRecord). map apply_of rs ++ advance_calls (reached s.applied rs) v) (sym (through_new s.applied end v peeked.records lies.1)) in
+      ap (λ (rs : List VersionedBatch). map apply_of rs ++ advance_calls (reached s.applied rs) v) (sym (through_new s.applied end v peeked.records lies.1)) in
       record {
         found = last_is ∙ way.found ∙ ap (λ (cs : List Call). Some (after_calls s cs)) part;
         more = way.more;

@@ -4,11 +4,13 @@ use Rattle.std.specs.Prelude.{◌⊎◌}
 use Rattle.std.specs.List.{list_all}
 use Rattle.std.proofs.lemmas.Bool.{and_parts, leb-true, ltb-true}
 use Rattle.std.proofs.lemmas.List.{append_assoc}
+use Rattle.fr_mutation.specs.declared.versioned.VersionedBatch.{VersionedBatch}
+use Rattle.fr_mutation.specs.Versioned.{is_rising_from}
 use Rattle.fr_undo.specs.State.{StoreState}
-use Rattle.fr_log.specs.declared.records.PeekedRecord.{PeekedRecord}
-use Rattle.fr_log.specs.Peeked.{PeekedContent, IsPeeked, is_rising_from}
+use Rattle.fr_undo.specs.Pull.{Call, Advance, Forget, called, after_calls, is_within, cut_at, records_between, apply_of, reached, advance_calls, forget_calls}
+use Rattle.fr_log.specs.Peeked.{PeekedContent, IsPeeked}
 use Rattle.fr_storage.specs.declared.fault.StorageFault.{StorageFault}
-use Rattle.fr_storage.specs.Storage.{StorageState, Call, Advance, Forget, called, after_calls, is_within, cut_at, records_between, apply_of, reached, advance_calls, forget_calls, new_records, reached_by, target_of, peeked_calls, peeked_fault, after_peeked, unless_fault}
+use Rattle.fr_storage.specs.Storage.{StorageState, new_records, reached_by, target_of, peeked_calls, peeked_fault, after_peeked, unless_fault}
 use Rattle.fr_storage.specs.Course.{IsReopened}
 use Rattle.fr_storage.specs.Position.{PeekedApplied, PeekedFloor}
 use Rattle.fr_state.specs.Generations.{IsCoordinatedState}
@@ -23,12 +25,12 @@ use Rattle.fr_storage.proofs.Climbs.{Climbs, found_on_way, is_last, same_bytes}
 -- ---- the calls of an answer climb
 
 -- versions rise strictly above one, and are at most another or none
-abbrev Rises : ℕ → List PeekedRecord → Type 0
+abbrev Rises : ℕ → List VersionedBatch → Type 0
 Rises v [] = Unit {0}
 Rises v (r ∷ rs) = (v < r.version) × Rises r.version rs
 
 module _ (a : ℕ) (end : Option ℕ) where
-  new_rise : (low v : ℕ) (rs : List PeekedRecord) → IsTrue (is_rising_from low rs) → (v < low) ⊎ (v ≤ a) → Rises v (records_between a end rs)
+  new_rise : (low v : ℕ) (rs : List VersionedBatch) → IsTrue (is_rising_from low rs) → (v < low) ⊎ (v ≤ a) → Rises v (records_between a end rs)
   new_rise low v [] rises le = tt
   new_rise low v (r ∷ rs) rises le =
       go (nat_lt a r.version && is_within end r.version) refl (new_rise (r.version + 1) r.version rs parts.1 (inl (omega arith))) (new_rise (r.version + 1) v rs parts.1 next)
@@ -73,7 +75,7 @@ module _ (s : StoreState) (target known : ℕ) where
       go true is = (keeps, inl (ltb-true t.applied target is, forgets (called t (Advance target)) (record { floor = keeps.floor; bytes = keeps.bytes })))
       go false is = forgets t keeps
 
-  climbs : (t : StoreState) (rs : List PeekedRecord) → Keeps s t → Rises t.applied rs → Climbs s t (map apply_of rs ++ (advance_calls (reached t.applied rs) target ++ forget_calls s.floor known))
+  climbs : (t : StoreState) (rs : List VersionedBatch) → Keeps s t → Rises t.applied rs → Climbs s t (map apply_of rs ++ (advance_calls (reached t.applied rs) target ++ forget_calls s.floor known))
   climbs t [] keeps rises = advances t keeps
   climbs t (r ∷ rs) keeps rises = (keeps, inl (rises.0, climbs (called t (apply_of r)) rs (record { floor = keeps.floor; bytes = keeps.bytes }) rises.1))
 
@@ -86,7 +88,7 @@ module _ (a : ℕ) (end : Option ℕ) (upto : ℕ) where
       go None u is le = le
       go (Some e) u is le = let within = leb-true u e is in omega arith
 
-  reaches : (v : ℕ) (rs : List PeekedRecord) → IsTrue (list_all (λ r. nat_le r.version upto) rs)
+  reaches : (v : ℕ) (rs : List VersionedBatch) → IsTrue (list_all (λ r. nat_le r.version upto) rs)
       → (reached v (records_between a end rs) ≡ v) ⊎ ((a < reached v (records_between a end rs)) × (reached v (records_between a end rs) ≤ cut_at end upto))
   reaches v [] all = inl refl
   reaches v (r ∷ rs) all = go (nat_lt a r.version && is_within end r.version) refl (reaches r.version rs parts.1) (reaches v rs parts.1)
@@ -106,7 +108,7 @@ module _ (a : ℕ) (end : Option ℕ) (upto : ℕ) where
       go true is (inr both) passed = inr both
       go false is taken passed = passed
 
-  pub reaches_target : (rs : List PeekedRecord) → IsTrue (list_all (λ r. nat_le r.version upto) rs) → max (reached a (records_between a end rs)) (cut_at end upto) ≡ max a (cut_at end upto)
+  pub reaches_target : (rs : List VersionedBatch) → IsTrue (list_all (λ r. nat_le r.version upto) rs) → max (reached a (records_between a end rs)) (cut_at end upto) ≡ max a (cut_at end upto)
   reaches_target rs all = elim (reaches a rs all) [
     | inl e ↦ ap (λ (n : ℕ). max n (cut_at end upto)) e
     | inr both ↦ let low = both.0 in let high = both.1 in omega (arith, low, high)

@@ -1,14 +1,15 @@
 -- A storage server over a store of any type, as contracts see it.
-use Rattle.std.specs.Prelude.{◌≡◌, ◌⊎◌, ℕ, Bool, true, false, List, Option, None, Some, Result, Ok, Err, Contains}
+use Rattle.std.specs.Prelude.{◌≡◌, ◌⊎◌, ℕ, Bool, true, false, List, Option, None, Some, Result, Ok, Err}
 use Rattle.fr_undo.specs.declared.fault.StoreFault.{StoreFault}
 use Rattle.fr_undo.specs.declared.fault.StoreFault.TheVariants.{Memory}
 use Rattle.fr_undo.specs.State.{StoreState}
 use Rattle.fr_undo.specs.Calls.{IsTrouble}
+use Rattle.fr_undo.specs.Pull.{IsWhole, IsCallTrouble}
 use Rattle.fr_state.specs.Generations.{CoordinatedState, IsCoordinatedState}
 use Rattle.fr_state.specs.Spelling.{spelling}
 use Rattle.fr_storage.specs.declared.fault.StorageFault.{StorageFault}
 use Rattle.fr_storage.specs.declared.fault.StorageFault.TheVariants.{Older, Stranger, BelowFloor, NotMyGeneration, Hole, Store, BadState}
-use Rattle.fr_storage.specs.Storage.{StorageState, Call, stages}
+use Rattle.fr_storage.specs.Storage.{StorageState}
 
 -- a storage server: its tag, the store, and what it keeps beside it (the coordinated state, the version applied and the
 -- floor). It failed if a call of the store was refused, and the server was not opened again since
@@ -37,11 +38,6 @@ kept_of s = record { tag = s.tag; state = s.state; applied = s.applied; floor = 
 -- bytes spell a coordinated state
 abbrev pub IsSpelled : List ℕ → Type 0
 IsSpelled bytes = (state : CoordinatedState) × IsCoordinatedState state × (bytes ≡ spelling state)
-
--- a store works: it is not failed, and a crash leaves it as it is
-pub record IsWhole {S : Type 0} (state_of : S → StoreState) (is_failed : S → Bool) (MayLeave : S → StoreState → Type 0) (store : S) : Type 0 where
-  pub works : is_failed store ≡ false
-  pub left : (left : StoreState) → MayLeave store left → left ≡ state_of store
 
 -- each store that opening the server again may find spells a state; and while the server is not failed its store works, spells the state that
 -- the server keeps, and has the version applied and the floor that it keeps
@@ -88,11 +84,7 @@ refusal_of (Err Hole) = Some Hole
 refusal_of (Err (Store fault)) = None
 refusal_of (Err BadState) = Some BadState
 
--- trouble that a store can meet in calls that write rows and in those that do not
-abbrev pub IsCallTrouble : (StoreFault → Type 0) → (StoreFault → Type 0) → StoreFault → Type 0
-IsCallTrouble CanMeet CanMeetInPlace fault = IsTrouble CanMeet fault ⊎ IsTrouble CanMeetInPlace fault
-
--- the same, or no memory for the bytes of a state
+-- trouble that a store can meet in its calls, or no memory for the bytes of a state
 abbrev pub IsMarkTrouble : (StoreFault → Type 0) → (StoreFault → Type 0) → StoreFault → Type 0
 IsMarkTrouble CanMeet CanMeetInPlace fault = IsCallTrouble CanMeet CanMeetInPlace fault ⊎ (fault ≡ Memory)
 
@@ -103,7 +95,3 @@ IsReadingTrouble CanMeet fault = IsTrouble CanMeet fault ⊎ (fault ≡ Memory)
 -- trouble when a store is opened again and its state is read
 abbrev pub IsOpeningTrouble : (StoreFault → Type 0) → (StoreFault → Type 0) → StoreFault → Type 0
 IsOpeningTrouble CanMeet CanMeetInPlace fault = IsTrouble CanMeetInPlace fault ⊎ IsReadingTrouble CanMeet fault
-
--- each state that a crash may leave is one on the way of calls
-abbrev pub LeavesStages : (StoreState → Type 0) → StoreState → List Call → Type 0
-LeavesStages MayLeave s calls = (left : StoreState) → MayLeave left → Contains (stages s calls) left

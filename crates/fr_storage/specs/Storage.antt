@@ -1,14 +1,13 @@
 -- The state of a storage server, and the calls of its store at each tell.
-use Rattle.std.specs.Prelude.{ℕ, ◌+◌, Bool, true, false, nat_lt, nat_le, ◌==◌, ◌&&◌, ◌||◌, not, min, max, List, [], ◌∷◌, ◌++◌, fold, map, filter, find, reverse, Option, None, Some, unwrap_or, if◌then◌else◌}
+use Rattle.std.specs.Prelude.{ℕ, ◌+◌, Bool, false, nat_lt, ◌==◌, ◌&&◌, ◌||◌, not, min, max, List, [], ◌∷◌, ◌++◌, map, find, reverse, Option, None, Some, unwrap_or, if◌then◌else◌}
 use Rattle.fr_base.specs.Bytes.{bytes_eq}
-use Rattle.fr_mutation.specs.declared.mutation.Mutation.{Mutation}
+use Rattle.fr_mutation.specs.declared.versioned.VersionedBatch.{VersionedBatch}
 use Rattle.fr_undo.specs.State.{StoreState}
-use Rattle.fr_undo.specs.Undo.{extended, undone, forgotten, advanced, with_bytes}
+use Rattle.fr_undo.specs.Pull.{Call, UndoTo, SetState, after_calls, stages, records_between, apply_of, reached, cut_at, advance_calls, forget_calls}
 use Rattle.fr_state.specs.Generations.{LogGeneration, CoordinatedState, last_of}
 use Rattle.fr_state.specs.LookUp.{source_of, end_of, cut_of}
 use Rattle.fr_state.specs.Same.{is_same_state, goes_on}
 use Rattle.fr_state.specs.Spelling.{spelling}
-use Rattle.fr_log.specs.declared.records.PeekedRecord.{PeekedRecord}
 use Rattle.fr_log.specs.declared.ask.LogAsk.{LogAsk}
 use Rattle.fr_log.specs.declared.ask.LogAsk.TheVariants.{Peek, MarkAsked, Pop}
 use Rattle.fr_log.specs.Peeked.{PeekedContent}
@@ -20,33 +19,6 @@ pub record StorageState : Type 0 where
   pub tag : ℕ
   pub state : CoordinatedState
   pub store : StoreState
-
--- ---- calls
-
--- a call of a store
-pub data Call : Type 0 where
-  Apply : (version : ℕ) (batch : List Mutation) → Call
-  UndoTo : (version : ℕ) → Call
-  Advance : (version : ℕ) → Call
-  Forget : (version : ℕ) → Call
-  SetState : (bytes : List ℕ) → Call
-
--- the store after a call
-abbrev pub called : StoreState → Call → StoreState
-called s (Apply version batch) = extended s version batch
-called s (UndoTo version) = undone s version
-called s (Advance version) = advanced s version
-called s (Forget version) = forgotten s version
-called s (SetState bytes) = with_bytes s bytes
-
--- the store after calls, from first to last
-abbrev pub after_calls : StoreState → List Call → StoreState
-after_calls s calls = fold called s calls
-
--- the stores that calls leave when they break off: before the first call, and after each one
-abbrev pub stages : StoreState → List Call → List StoreState
-stages s [] = s ∷ []
-stages s (call ∷ calls) = s ∷ stages (called s call) calls
 
 -- ---- a coordinated state is heard
 
@@ -92,30 +64,9 @@ peeked_fault s epoch peeked =
     else if nat_lt s.store.applied peeked.after then Some Hole
     else None
 
--- whether a version is not above the end of its generation, if that has one
-abbrev pub is_within : Option ℕ → ℕ → Bool
-is_within None version = true
-is_within (Some end) version = nat_le version end
-
--- a version, cut at the end
-abbrev pub cut_at : Option ℕ → ℕ → ℕ
-cut_at None version = version
-cut_at (Some end) version = min version end
-
--- of some records those above the version applied that are not above an end
-abbrev pub records_between : ℕ → Option ℕ → List PeekedRecord → List PeekedRecord
-records_between applied end records = filter (λ r. nat_lt applied r.version && is_within end r.version) records
-
 -- the records that are new to a storage, up to the end of their generation
-abbrev pub new_records : StorageState → ℕ → PeekedContent → List PeekedRecord
+abbrev pub new_records : StorageState → ℕ → PeekedContent → List VersionedBatch
 new_records s epoch peeked = records_between s.store.applied (end_of s.state.gens epoch) peeked.records
-
-abbrev pub apply_of : PeekedRecord → Call
-apply_of r = Apply r.version r.batch
-
--- the version through which records are applied: that of the last of them, or the one from before
-abbrev pub reached : ℕ → List PeekedRecord → ℕ
-reached applied records = fold (λ v r. r.version) applied records
 
 -- the version through which the new records are applied
 abbrev pub reached_by : StorageState → ℕ → PeekedContent → ℕ
@@ -124,12 +75,6 @@ reached_by s epoch peeked = reached s.store.applied (new_records s epoch peeked)
 -- the version through which all is known
 abbrev pub target_of : StorageState → ℕ → PeekedContent → ℕ
 target_of s epoch peeked = cut_at (end_of s.state.gens epoch) peeked.upto
-
-abbrev pub advance_calls : ℕ → ℕ → List Call
-advance_calls applied target = if nat_lt applied target then Advance target ∷ [] else []
-
-abbrev pub forget_calls : ℕ → ℕ → List Call
-forget_calls floor known = if nat_lt floor known then Forget known ∷ [] else []
 
 -- the calls of an answer that is not refused: each new record is applied, what is complete beyond them is advanced over, and what is
 -- known to be committed needs no undo rows

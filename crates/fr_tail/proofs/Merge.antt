@@ -5,7 +5,7 @@ use Rattle.std.proofs.Math.Seq.{drop-cons}
 use Rattle.std.proofs.lemmas.Bool.{cases_eq, cases_lt, cases_order}
 use Rattle.fr_mutation.specs.declared.mutation.Mutation.{Mutation}
 use Rattle.std.proofs.lemmas.List.{append-nil, get_or-set_same, get_or-set_other, drop_all}
-use Rattle.fr_log.specs.declared.records.PeekedRecord.{PeekedRecord}
+use Rattle.fr_mutation.specs.declared.versioned.VersionedBatch.{VersionedBatch}
 use Rattle.fr_log.specs.declared.records.SeedRecord.{SeedRecord}
 use Rattle.fr_tail.specs.Tail.{TailState, part_at, as_seed_record, records_for, placed, in_order}
 use Rattle.fr_tags.specs.Placement.{is_held}
@@ -57,29 +57,29 @@ take_first f g r t at same first (suc n) low high above = elim (cases_eq first t
 
 -- ---- what is left of a copy
 
-rises_drop : (least k : ℕ) (rs : List PeekedRecord) → Rises least rs → Rises least (drop k rs)
+rises_drop : (least k : ℕ) (rs : List VersionedBatch) → Rises least rs → Rises least (drop k rs)
 rises_drop least zero rs h = h
 rises_drop least (suc k) [] h = tt
 rises_drop least (suc k) (r ∷ rs) (here, rest) = rises_lower least (r.version + 1) (drop k rs) (omega (arith, here)) (rises_drop (r.version + 1) k rs rest)
 
 -- rising records of a tag are above one of a lower version
-rising_above : (r : SeedRecord) (tag least : ℕ) (rs : List PeekedRecord) → r.version < least → Rises least rs → AllAbove r (map (as_seed_record tag) rs)
+rising_above : (r : SeedRecord) (tag least : ℕ) (rs : List VersionedBatch) → r.version < least → Rises least rs → AllAbove r (map (as_seed_record tag) rs)
 rising_above r tag least [] low h = tt
 rising_above r tag least (q ∷ rs) low (here, rest) = (inl (omega (arith, low, here)), rising_above r tag (q.version + 1) rs (omega (arith, low, here)) rest)
 
 -- the records left of a tag that has some
-left_is : (s : TailState) (taken : List ℕ) (t : ℕ) (d : PeekedRecord) → HasLeft s taken t
+left_is : (s : TailState) (taken : List ℕ) (t : ℕ) (d : VersionedBatch) → HasLeft s taken t
     → left_of s taken t ≡ as_seed_record t (get_or (part_at s t).records (taken_of taken t) d) ∷ map (as_seed_record t) (drop (suc (taken_of taken t)) (part_at s t).records)
 left_is s taken t d more = ap (map (as_seed_record t)) (drop-cons (part_at s t).records (taken_of taken t) d more)
 
 -- the records of a tag behind one of them
-rest_rises : (least k : ℕ) (rs : List PeekedRecord) (d : PeekedRecord) → k < length rs → Rises least rs → Rises ((get_or rs k d).version + 1) (drop (suc k) rs)
+rest_rises : (least k : ℕ) (rs : List VersionedBatch) (d : VersionedBatch) → k < length rs → Rises least rs → Rises ((get_or rs k d).version + 1) (drop (suc k) rs)
 rest_rises least k rs d less h =
     let all : Rises least (get_or rs k d ∷ drop (suc k) rs) = subst (Rises least) (drop-cons rs k d less) (rises_drop least k rs h) in
     all.1
 
 -- the least record that is left is the first in order, and the others stay
-pub merge_step : (s : TailState) → IsTail s → (taken : List ℕ) (version t : ℕ) (d : PeekedRecord) → IsLeast s taken (length s.parts) version t → t < length taken
+pub merge_step : (s : TailState) → IsTail s → (taken : List ℕ) (version t : ℕ) (d : VersionedBatch) → IsLeast s taken (length s.parts) version t → t < length taken
     → in_order (all_left s taken)
     ≡ as_seed_record t (get_or (part_at s t).records (taken_of taken t) d) ∷ in_order (all_left s (set taken t (taken_of taken t + 1)))
 merge_step s shape taken version t d k within =
@@ -194,11 +194,11 @@ rest_untaken n value taken rest t more = get_or-set_other taken n t value 0 (λ 
 
 -- ---- the loop that merges
 
-pub merge_less : (s : TailState) → IsTail s → (taken : List ℕ) (version t : ℕ) (d : PeekedRecord) → IsLeast s taken (length s.parts) version t → t < length taken
+pub merge_less : (s : TailState) → IsTail s → (taken : List ℕ) (version t : ℕ) (d : VersionedBatch) → IsLeast s taken (length s.parts) version t → t < length taken
     → length (in_order (all_left s (set taken t (taken_of taken t + 1)))) < length (in_order (all_left s taken))
 merge_less s shape taken version t d k within = let e = ap length (merge_step s shape taken version t d k within) in omega (arith, e)
 
-pub merge_more : (s : TailState) → IsTail s → (taken : List ℕ) (version t : ℕ) (d : PeekedRecord) → IsLeast s taken (length s.parts) version t → t < length taken
+pub merge_more : (s : TailState) → IsTail s → (taken : List ℕ) (version t : ℕ) (d : VersionedBatch) → IsLeast s taken (length s.parts) version t → t < length taken
     → (done new all : List SeedRecord) (r : SeedRecord) → done ++ in_order (all_left s taken) ≡ all → r ≡ as_seed_record t (get_or (part_at s t).records (taken_of taken t) d) → new ≡ done ++ r ∷ []
     → new ++ in_order (all_left s (set taken t (taken_of taken t + 1))) ≡ all
 merge_more s shape taken version t d k within done new all r so_far is pushed =
@@ -211,7 +211,7 @@ pub merge_done : (s : TailState) (taken : List ℕ) (done all : List SeedRecord)
 merge_done s taken done all none so_far = sym (append-nil done) ∙ ap (λ rs. done ++ in_order rs) (sym (merge_ends s taken none)) ∙ so_far
 
 -- a seed's record, field by field
-pub seed_record_is : (s : TailState) (taken : List ℕ) (t : ℕ) (d q : PeekedRecord) (version tag : ℕ) (batch : List Mutation) → q ≡ get_or (part_at s t).records (taken_of taken t) d → version ≡ q.version → tag ≡ t → batch ≡ q.batch
+pub seed_record_is : (s : TailState) (taken : List ℕ) (t : ℕ) (d q : VersionedBatch) (version tag : ℕ) (batch : List Mutation) → q ≡ get_or (part_at s t).records (taken_of taken t) d → version ≡ q.version → tag ≡ t → batch ≡ q.batch
     → record { version = version; tag = tag; batch = batch } ≡ as_seed_record t (get_or (part_at s t).records (taken_of taken t) d)
 seed_record_is s taken t d q version tag batch is v u b =
     ap (λ x. let r : SeedRecord = record { version = x; tag = tag; batch = batch } in r) v

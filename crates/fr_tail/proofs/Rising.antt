@@ -3,61 +3,61 @@ use Rattle.std.proofs.Common.{◌≡◌, ℕ, ◌+◌, ◌<◌, ◌≤◌, ◌�
 use Rattle.std.specs.Prelude.{filter}
 use Rattle.std.specs.List.{AllByRecursion, list_all}
 use Rattle.std.proofs.lemmas.Bool.{and_from, and_parts, cases_lt, cases_order, eq-eqb, eqb-true, le-leb, leb-true, le-ltb, lt-ltb, ltb-true, ne_eqb}
-use Rattle.fr_log.specs.declared.records.PeekedRecord.{PeekedRecord}
+use Rattle.fr_mutation.specs.declared.versioned.VersionedBatch.{VersionedBatch}
 use Rattle.fr_log.specs.declared.records.SeedRecord.{SeedRecord}
-use Rattle.fr_log.specs.Peeked as peek
+use Rattle.fr_mutation.specs.Versioned.{is_rising_from}
 use Rattle.fr_log.specs.Seed as seed
 use Rattle.fr_tail.specs.Tail.{is_before, placed, in_order}
 
 -- ---- records of one tag
 
 -- versions rise strictly, and none is below this one
-abbrev pub Rises : ℕ → List PeekedRecord → Type 0
+abbrev pub Rises : ℕ → List VersionedBatch → Type 0
 Rises least [] = Unit {0}
 Rises least (r ∷ rs) = (least ≤ r.version) × Rises (r.version + 1) rs
 
 -- no version is above this one
-abbrev pub Through : ℕ → List PeekedRecord → Type 0
+abbrev pub Through : ℕ → List VersionedBatch → Type 0
 Through last [] = Unit {0}
 Through last (r ∷ rs) = (r.version ≤ last) × Through last rs
 
-pub rises_from_test : (least : ℕ) (rs : List PeekedRecord) → peek.is_rising_from least rs ≡ true → Rises least rs
+pub rises_from_test : (least : ℕ) (rs : List VersionedBatch) → is_rising_from least rs ≡ true → Rises least rs
 rises_from_test least [] e = tt
-rises_from_test least (r ∷ rs) e = let p = and_parts (nat_le least r.version) (peek.is_rising_from (r.version + 1) rs) e in (leb-true least r.version p.0, rises_from_test (r.version + 1) rs p.1)
+rises_from_test least (r ∷ rs) e = let p = and_parts (nat_le least r.version) (is_rising_from (r.version + 1) rs) e in (leb-true least r.version p.0, rises_from_test (r.version + 1) rs p.1)
 
-pub rises_test : (least : ℕ) (rs : List PeekedRecord) → Rises least rs → peek.is_rising_from least rs ≡ true
+pub rises_test : (least : ℕ) (rs : List VersionedBatch) → Rises least rs → is_rising_from least rs ≡ true
 rises_test least [] h = refl
-rises_test least (r ∷ rs) (low, rest) = and_from (nat_le least r.version) (peek.is_rising_from (r.version + 1) rs) (le-leb least r.version low) (rises_test (r.version + 1) rs rest)
+rises_test least (r ∷ rs) (low, rest) = and_from (nat_le least r.version) (is_rising_from (r.version + 1) rs) (le-leb least r.version low) (rises_test (r.version + 1) rs rest)
 
-pub through_from_test : (last : ℕ) (rs : List PeekedRecord) → list_all (λ r. nat_le r.version last) rs ≡ true → Through last rs
+pub through_from_test : (last : ℕ) (rs : List VersionedBatch) → list_all (λ r. nat_le r.version last) rs ≡ true → Through last rs
 through_from_test last [] e = tt
 through_from_test last (r ∷ rs) e = let p = and_parts (nat_le r.version last) (list_all (λ s. nat_le s.version last) rs) e in (leb-true r.version last p.0, through_from_test last rs p.1)
 
-pub through_test : (last : ℕ) (rs : List PeekedRecord) → Through last rs → list_all (λ r. nat_le r.version last) rs ≡ true
+pub through_test : (last : ℕ) (rs : List VersionedBatch) → Through last rs → list_all (λ r. nat_le r.version last) rs ≡ true
 through_test last [] h = refl
 through_test last (r ∷ rs) (low, rest) = and_from (nat_le r.version last) (list_all (λ s. nat_le s.version last) rs) (le-leb r.version last low) (through_test last rs rest)
 
-pub rises_lower : (low least : ℕ) (rs : List PeekedRecord) → low ≤ least → Rises least rs → Rises low rs
+pub rises_lower : (low least : ℕ) (rs : List VersionedBatch) → low ≤ least → Rises least rs → Rises low rs
 rises_lower low least [] le h = tt
 rises_lower low least (r ∷ rs) le (here, rest) = (omega arith, rest)
 
-pub through_higher : (last high : ℕ) (rs : List PeekedRecord) → last ≤ high → Through last rs → Through high rs
+pub through_higher : (last high : ℕ) (rs : List VersionedBatch) → last ≤ high → Through last rs → Through high rs
 through_higher last high [] le h = tt
 through_higher last high (r ∷ rs) le (here, rest) = (omega arith, through_higher last high rs le rest)
 
-pub rises_append : (least last : ℕ) (rs ss : List PeekedRecord) → least ≤ last + 1 → Rises least rs → Through last rs → Rises (last + 1) ss → Rises least (rs ++ ss)
+pub rises_append : (least last : ℕ) (rs ss : List VersionedBatch) → least ≤ last + 1 → Rises least rs → Through last rs → Rises (last + 1) ss → Rises least (rs ++ ss)
 rises_append least last [] ss le h t more = rises_lower least (last + 1) ss le more
 rises_append least last (r ∷ rs) ss le (here, rest) (below, others) more = (here, rises_append (r.version + 1) last rs ss (omega arith) rest others more)
 
-pub through_append : (last : ℕ) (rs ss : List PeekedRecord) → Through last rs → Through last ss → Through last (rs ++ ss)
+pub through_append : (last : ℕ) (rs ss : List VersionedBatch) → Through last rs → Through last ss → Through last (rs ++ ss)
 through_append last [] ss h more = more
 through_append last (r ∷ rs) ss (here, rest) more = (here, through_append last rs ss rest more)
 
 -- those at most a version
-abbrev pub kept_through : ℕ → List PeekedRecord → List PeekedRecord
+abbrev pub kept_through : ℕ → List VersionedBatch → List VersionedBatch
 kept_through rv rs = filter (λ r. nat_le r.version rv) rs
 
-pub rises_kept : (rv least : ℕ) (rs : List PeekedRecord) → Rises least rs → Rises least (kept_through rv rs)
+pub rises_kept : (rv least : ℕ) (rs : List VersionedBatch) → Rises least rs → Rises least (kept_through rv rs)
 rises_kept rv least [] h = tt
 rises_kept rv least (r ∷ rs) (here, rest) = go (nat_le r.version rv) refl (rises_kept rv (r.version + 1) rs rest)
   where
@@ -65,7 +65,7 @@ rises_kept rv least (r ∷ rs) (here, rest) = go (nat_le r.version rv) refl (ris
     go true e k = rw e (here, k)
     go false e k = rw e (rises_lower least (r.version + 1) (kept_through rv rs) (omega (arith, here)) k)
 
-pub through_kept : (rv last high : ℕ) (rs : List PeekedRecord) → ((v : ℕ) → v ≤ rv → v ≤ last → v ≤ high) → Through last rs → Through high (kept_through rv rs)
+pub through_kept : (rv last high : ℕ) (rs : List VersionedBatch) → ((v : ℕ) → v ≤ rv → v ≤ last → v ≤ high) → Through last rs → Through high (kept_through rv rs)
 through_kept rv last high [] both h = tt
 through_kept rv last high (r ∷ rs) both (here, rest) = go (nat_le r.version rv) refl (through_kept rv last high rs both rest)
   where

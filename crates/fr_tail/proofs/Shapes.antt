@@ -4,8 +4,8 @@ use Rattle.std.specs.Prelude.{filter}
 use Rattle.std.specs.List.{AllByRecursion, list_all, range_with_len}
 use Rattle.std.proofs.lemmas.Bool.{and_from, cases_eq, le-leb}
 use Rattle.std.proofs.lemmas.List.{get_or-set_same, get_or-set_other, get_or_default, length-set}
+use Rattle.fr_mutation.specs.declared.versioned.VersionedBatch.{VersionedBatch}
 use Rattle.fr_tags.specs.Placement.{is_held}
-use Rattle.fr_log.specs.declared.records.PeekedRecord.{PeekedRecord}
 use Rattle.fr_log.specs.declared.records.SeedRecord.{SeedRecord}
 use Rattle.fr_log.specs.Peeked.{PeekedContent, IsPeeked}
 use Rattle.fr_log.specs.Seed.{SeedContent, IsSeed, is_within}
@@ -66,11 +66,11 @@ with_part_is_tail s tag p k below new = record {
 -- ---- seeds
 
 -- records that are of one tag are apart, as their versions rise
-tagged_apart : (tag least : ℕ) (rs : List PeekedRecord) → Rises least rs → AreApart (map (as_seed_record tag) rs)
+tagged_apart : (tag least : ℕ) (rs : List VersionedBatch) → Rises least rs → AreApart (map (as_seed_record tag) rs)
 tagged_apart tag least [] h = tt
 tagged_apart tag least (r ∷ rs) (here, rest) = (below r (r.version + 1) rs (omega arith) rest, tagged_apart tag (r.version + 1) rs rest)
   where
-    below : (r : PeekedRecord) (least : ℕ) (rs : List PeekedRecord) → r.version < least → Rises least rs → AllByRecursion (Apart (as_seed_record tag r)) (map (as_seed_record tag) rs)
+    below : (r : VersionedBatch) (least : ℕ) (rs : List VersionedBatch) → r.version < least → Rises least rs → AllByRecursion (Apart (as_seed_record tag r)) (map (as_seed_record tag) rs)
     below r least [] low h = tt
     below r least (q ∷ rs) low (here, rest) = (λ e t. absurd (omega (arith, e, low, here)), below r (q.version + 1) rs (omega (arith, low, here)) rest)
 
@@ -80,7 +80,7 @@ record IsOf (pev rv first : ℕ) (q : SeedRecord) : Type 0 where
   high : q.version ≤ rv
   tag : first ≤ q.tag
 
-tagged_of : (pev rv tag least : ℕ) (rs : List PeekedRecord) → pev < least → Rises least rs → Through rv rs → AllByRecursion (λ q. IsOf pev rv tag q × (q.tag ≡ tag)) (map (as_seed_record tag) rs)
+tagged_of : (pev rv tag least : ℕ) (rs : List VersionedBatch) → pev < least → Rises least rs → Through rv rs → AllByRecursion (λ q. IsOf pev rv tag q × (q.tag ≡ tag)) (map (as_seed_record tag) rs)
 tagged_of pev rv tag least [] low h t = tt
 tagged_of pev rv tag least (r ∷ rs) low (here, rest) (top, others) = ((record { low = omega (arith, low, here); high = top; tag = omega arith }, refl), tagged_of pev rv tag (r.version + 1) rs (omega (arith, low, here)) rest others)
 
@@ -171,7 +171,7 @@ pub new_parts_count : (pev tags n : ℕ) (parts : List TagPart) → n ≡ tags �
 new_parts_count pev tags n parts e is = let all = is ∙ ap (λ k. map (λ t. new_part pev) (range_with_len 0 k)) e in (all, ap length all ∙ made_count pev 0 tags)
 
 -- a part that goes on, field by field
-pub longer_is : (rv old : ℕ) (records : List PeekedRecord) (peeked : PeekedContent) (reached : ℕ) (new kept : List PeekedRecord) → reached ≡ min peeked.upto rv
+pub longer_is : (rv old : ℕ) (records : List VersionedBatch) (peeked : PeekedContent) (reached : ℕ) (new kept : List VersionedBatch) → reached ≡ min peeked.upto rv
     → kept ≡ filter (λ r. nat_le r.version rv) peeked.records → new ≡ records ++ kept
     → record { reached = reached; records = new } ≡ longer rv (record { reached = old; records = records }) peeked
 longer_is rv old records peeked reached new kept at is pushed =

@@ -5,8 +5,8 @@ use Rattle.std.specs.List.{list_any, range_with_len}
 use Rattle.std.proofs.lemmas.Bool.{and_parts, cases_eq, eqb-true, ltb-true, ltb-false, or_parts, not-false}
 use Rattle.std.proofs.lemmas.List.{append_cancel_left, append-nil, get_or-set_same, get_or-set_other, get_or_past}
 use Rattle.std.proofs.lemmas.List.Folds.{list_all_at}
+use Rattle.fr_mutation.specs.declared.versioned.VersionedBatch.{VersionedBatch}
 use Rattle.fr_tags.specs.Placement.{is_held}
-use Rattle.fr_log.specs.declared.records.PeekedRecord.{PeekedRecord}
 use Rattle.fr_log.specs.Peeked.{PeekedContent}
 use Rattle.fr_tail.specs.declared.fault.TailFault.TheVariants.{NotResponder, Hole, ShortOfEnd}
 use Rattle.fr_tail.specs.Copied.{IsWhole, IsCopiedPart, IsCopied, IsTrueAnswer, Answer, AreTrueAnswers, RiseOn, after_answers, NewIsCopied, HearCopies, CompleteIsCopied, SeedsAreWhole}
@@ -18,10 +18,10 @@ use Rattle.fr_tail.proofs.Copies.{hear_keeps_ends, hear_keeps_tags}
 -- ---- the start
 
 -- there is nothing between a version and itself
-whole_none : (whole : ℕ → ℕ → List PeekedRecord) → IsWhole whole → (v : ℕ) → whole v v ≡ []
+whole_none : (whole : ℕ → ℕ → List VersionedBatch) → IsWhole whole → (v : ℕ) → whole v v ≡ []
 whole_none whole w v = append_cancel_left (whole v v) (whole v v) [] (w.on v v v (omega arith) (omega arith) ∙ sym (append-nil (whole v v)))
 
-new_part_copied : (whole : ℕ → ℕ → List PeekedRecord) → IsWhole whole → (pev rv : ℕ) → pev ≤ rv → IsCopiedPart whole pev rv (new_part pev)
+new_part_copied : (whole : ℕ → ℕ → List VersionedBatch) → IsWhole whole → (pev rv : ℕ) → pev ≤ rv → IsCopiedPart whole pev rv (new_part pev)
 new_part_copied whole w pev rv le = record { low = omega arith; high = le; records = sym (whole_none whole w pev) }
 
 pub new_parts : (pev first n t : ℕ) → get_or (map (λ t. new_part pev) (range_with_len first n)) t (new_part pev) ≡ new_part pev
@@ -35,7 +35,7 @@ new_copied whole w tags m k responders pev rv le t = subst (IsCopiedPart (whole 
 -- ---- one answer
 
 -- a part that goes on by all records from what is reached
-longer_copied : (whole : ℕ → ℕ → List PeekedRecord) → IsWhole whole → (pev rv : ℕ) (p : TagPart) (peeked : PeekedContent) → IsCopiedPart whole pev rv p → peeked.after ≡ p.reached → p.reached < rv → peeked.after < peeked.upto
+longer_copied : (whole : ℕ → ℕ → List VersionedBatch) → IsWhole whole → (pev rv : ℕ) (p : TagPart) (peeked : PeekedContent) → IsCopiedPart whole pev rv p → peeked.after ≡ p.reached → p.reached < rv → peeked.after < peeked.upto
     → filter (λ r. nat_le r.version rv) peeked.records ≡ whole peeked.after (min peeked.upto rv) → IsCopiedPart whole pev rv (longer rv p peeked)
 longer_copied whole w pev rv p peeked k at below rises is = let low = k.low in record {
   low = omega (arith, low, at, below, rises);
@@ -51,7 +51,7 @@ responder_below : (s : TailState) (log tag : ℕ) → is_responder s log tag ≡
 responder_below s log tag is = ltb-true tag (length s.parts) (and_parts (is_held tag s.m s.k log) (nat_lt tag (length s.parts)) (and_parts (list_any (λ r. r == log) s.responders) (is_held tag s.m s.k log && nat_lt tag (length s.parts)) is).1).1
 
 -- a copy with another part of a tag
-with_part_copied : (whole : ℕ → ℕ → ℕ → List PeekedRecord) (s : TailState) (tag : ℕ) (p : TagPart) → tag < length s.parts → IsCopied whole s → IsCopiedPart (whole tag) s.pev s.rv p → IsCopied whole (with_part s tag p)
+with_part_copied : (whole : ℕ → ℕ → ℕ → List VersionedBatch) (s : TailState) (tag : ℕ) (p : TagPart) → tag < length s.parts → IsCopied whole s → IsCopiedPart (whole tag) s.pev s.rv p → IsCopied whole (with_part s tag p)
 with_part_copied whole s tag p below k new t = elim (cases_eq t tag) [
   | inl same ↦ subst (λ u. IsCopiedPart (whole u) s.pev s.rv (get_or (set s.parts tag p) u (new_part s.pev))) (sym same)
       (subst (IsCopiedPart (whole tag) s.pev s.rv) (sym (get_or-set_same s.parts tag p (new_part s.pev) below)) new)
@@ -115,7 +115,7 @@ hear_keeps s log tag peeked =
 responder_same : (s t : TailState) (log tag : ℕ) → IsSameEnds s t → is_responder t log tag ≡ is_responder s log tag
 responder_same s t log tag same = rw (same.m, same.k, same.responders, same.tags) refl
 
-true_later : (whole : ℕ → ℕ → ℕ → List PeekedRecord) (s t : TailState) → IsSameEnds s t → (answers : List Answer) → AreTrueAnswers whole s answers → AreTrueAnswers whole t answers
+true_later : (whole : ℕ → ℕ → ℕ → List VersionedBatch) (s t : TailState) → IsSameEnds s t → (answers : List Answer) → AreTrueAnswers whole s answers → AreTrueAnswers whole t answers
 true_later whole s t same [] all = tt
 true_later whole s t same (a ∷ answers) (is, rest) =
     (λ e. subst (λ v. IsTrueAnswer whole v a.tag a.peeked) (sym same.rv) (is (sym (responder_same s t a.log a.tag same) ∙ e)), true_later whole s t same answers rest)
@@ -130,7 +130,7 @@ same_trans s t u a b = record {
   tags = b.tags ∙ a.tags;
 }
 
-answers_copied : (whole : ℕ → ℕ → ℕ → List PeekedRecord) → ((t : ℕ) → IsWhole (whole t)) → (s : TailState) → IsCopied whole s → (answers : List Answer) → AreTrueAnswers whole s answers
+answers_copied : (whole : ℕ → ℕ → ℕ → List VersionedBatch) → ((t : ℕ) → IsWhole (whole t)) → (s : TailState) → IsCopied whole s → (answers : List Answer) → AreTrueAnswers whole s answers
     → IsCopied whole (after_answers s answers) × IsSameEnds s (after_answers s answers)
 answers_copied whole w s k [] all = (k, record { m = refl; k = refl; responders = refl; pev = refl; rv = refl; tags = refl })
 answers_copied whole w s k (a ∷ answers) (is, rest) =

@@ -1,7 +1,7 @@
 -- How the tags of a copy are merged.
 use Rattle.std.specs.Prelude.{◌≡◌, ℕ, ◌<◌, ◌≤◌, List, map, drop, length, flat_map, slice_index_or, nat_lt, Option, None, Some, ◌⊎◌, if◌then◌else◌}
 use Rattle.std.specs.List.{range_with_len}
-use Rattle.fr_log.specs.declared.records.PeekedRecord.{PeekedRecord}
+use Rattle.fr_mutation.specs.declared.versioned.VersionedBatch.{VersionedBatch}
 use Rattle.fr_log.specs.declared.records.SeedRecord.{SeedRecord}
 use Rattle.fr_tail.specs.Tail.{TailState, part_at, as_seed_record}
 
@@ -22,15 +22,15 @@ abbrev pub HasLeft : TailState → List ℕ → ℕ → Type 0
 HasLeft s taken t = taken_of taken t < length (part_at s t).records
 
 -- the version of the first record that is left of a tag
-abbrev pub first_left : TailState → List ℕ → ℕ → PeekedRecord → ℕ
+abbrev pub first_left : TailState → List ℕ → ℕ → VersionedBatch → ℕ
 first_left s taken t d = (slice_index_or (part_at s t).records (taken_of taken t) d).version
 
 -- among the tags below n, this one has the least record that is left; of equal versions the lowest tag comes first
 pub record IsLeast (s : TailState) (taken : List ℕ) (n version t : ℕ) : Type 0 where
   pub below : t < n
   pub more : HasLeft s taken t
-  pub version_is : (d : PeekedRecord) → first_left s taken t d ≡ version
-  pub least : (u : ℕ) (d : PeekedRecord) → u < n → HasLeft s taken u → (version < first_left s taken u d) ⊎ ((version ≡ first_left s taken u d) × (t ≤ u))
+  pub version_is : (d : VersionedBatch) → first_left s taken t d ≡ version
+  pub least : (u : ℕ) (d : VersionedBatch) → u < n → HasLeft s taken u → (version < first_left s taken u d) ⊎ ((version ≡ first_left s taken u d) × (t ≤ u))
 
 -- none is left of the tags below n, or this is the least of them
 abbrev pub IsLeastOf : TailState → List ℕ → ℕ → Option (ℕ × ℕ) → Type 0

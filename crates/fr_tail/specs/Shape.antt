@@ -1,7 +1,7 @@
 -- What every copy is.
 use Rattle.std.specs.Prelude.{ℕ, ◌+◌, ◌^◌, ◌<◌, ◌≤◌, nat_le, length, IsTrue}
 use Rattle.std.specs.List.{list_all}
-use Rattle.fr_log.specs.Peeked.{is_rising_from}
+use Rattle.fr_mutation.specs.Versioned.{is_rising_from}
 use Rattle.fr_tail.specs.Tail.{TailState, TagPart, part_at}
 
 -- the part of a tag: its records rise by version, from the one after pev through what is reached

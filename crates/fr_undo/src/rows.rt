@@ -22,7 +22,7 @@ use std::cmp::Ordering;
 use std::collections::{BTreeMap, VecDeque};
 
 /// A place, which is a version and a key, and what the key held before that version.
-pub(crate) type Row = ((Version, Bytes), Option<Bytes>);
+pub type Row = ((Version, Bytes), Option<Bytes>);
 
 /// How many rows, in the order of their places, are through a version. They come before all others.
 pub(crate) fn count_through(rows: &VecDeque<Row>, version: Version) -> usize

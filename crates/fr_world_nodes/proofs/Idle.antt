@@ -5,11 +5,12 @@ use Rattle.std.proofs.lemmas.Bool.{eq-eqb, eqb-true, ne_eqb}
 use Rattle.fr_base.specs.Bytes.{bytes_eq}
 use Rattle.fr_base.specs.Same.{bytes_eq-IsSameness}
 use Rattle.fr_undo.specs.State.{StoreState}
+use Rattle.fr_undo.specs.Pull.{Call}
 use Rattle.fr_state.specs.Generations.{CoordinatedState}
 use Rattle.fr_log.specs.Peeked.{PeekedContent}
 use Rattle.fr_log.specs.declared.ask.LogTell.{LogTell}
 use Rattle.fr_log.specs.declared.ask.LogTell.TheVariants as ltell
-use Rattle.fr_storage.specs.Storage.{StorageState, Call, broken_at}
+use Rattle.fr_storage.specs.Storage.{StorageState, broken_at}
 use Rattle.fr_storage.specs.declared.fault.StorageFault.{StorageFault}
 use Rattle.fr_run.specs.Nodes.{calls_of_log}
 use Rattle.fr_run.specs.Run.{fault_of_log}

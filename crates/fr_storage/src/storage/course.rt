@@ -1,6 +1,7 @@
 //! Answers are heard one after the other, and a server whose hear broke off is opened again.
 ghost use Rattle.std.specs.Prelude.{◌≡◌, ◌≢◌, ◌↔◌, ◌||◌, false, [], ◌∷◌, map, Ok, Err, None, OnOk, OnErr, IfOk, IfSome, IsOk, IsTrue};
-ghost use Rattle.fr_storage.specs.Server.{storage_of, kept_of, met_store, refusal_of, store_fault, IsMarkTrouble, IsOpeningTrouble, LeavesStages};
+ghost use Rattle.fr_undo.specs.Pull.{LeavesStages};
+ghost use Rattle.fr_storage.specs.Server.{storage_of, kept_of, met_store, refusal_of, store_fault, IsMarkTrouble, IsOpeningTrouble};
 ghost use Rattle.fr_storage.specs.Course.{fault_of, calls_of, after_hear, IsAfter, IsReopened};
 ghost use Rattle.fr_storage.specs.Standing.{heard_of, after_hears, is_untimely, LeadTo, RefusesOne, IsFound, StaysStanding};
 

@@ -1,10 +1,11 @@
 //! A coordinated state is heard: the server goes over to a later epoch.
 ghost use Rattle.std.specs.Prelude.{◌≡◌, ◌≢◌, ◌≤◌, ◌↔◌, ◌||◌, false, [], ◌∷◌, Err, None, OnOk, OnErr, IfErr, IfSome, IsOk, IsTrue};
+ghost use Rattle.fr_undo.specs.Pull.{UndoTo, SetState, after_calls, IsWhole, LeavesStages};
 ghost use Rattle.fr_state.specs.Same.{is_same_state};
 ghost use Rattle.fr_state.specs.Spelling.{spelling};
 ghost use Rattle.fr_storage.specs.declared.fault.StorageFault.{StorageFault};
-ghost use Rattle.fr_storage.specs.Storage.{StorageState, UndoTo, SetState, own_epoch, cut_in, is_stranger, after_calls, marked_fault, marked_calls, after_marked};
-ghost use Rattle.fr_storage.specs.Server.{storage_of, kept_of, met_store, refusal_of, store_fault, IsMarkTrouble, IsWhole, LeavesStages};
+ghost use Rattle.fr_storage.specs.Storage.{StorageState, own_epoch, cut_in, is_stranger, marked_fault, marked_calls, after_marked};
+ghost use Rattle.fr_storage.specs.Server.{storage_of, kept_of, met_store, refusal_of, store_fault, IsMarkTrouble};
 
 mod broken;
 

@@ -3,13 +3,14 @@ ghost use Rattle.std.specs.Prelude.{◌≡◌, ◌≢◌, ◌⊎◌, ◌↔◌, 
 ghost use Rattle.fr_undo.specs.State.{fresh};
 ghost use Rattle.fr_undo.specs.Undo.{with_bytes};
 ghost use Rattle.fr_undo.specs.Calls.{IsTrouble, LeavesNoMore};
+ghost use Rattle.fr_undo.specs.Pull.{IsWhole};
 ghost use Rattle.fr_state.specs.Generations.{CoordinatedState, IsCoordinatedState};
 ghost use Rattle.fr_state.specs.Reading.{reading};
 ghost use Rattle.fr_state.specs.Spelling.{spelling};
 ghost use Rattle.fr_storage.specs.declared.fault.StorageFault.{StorageFault};
 ghost use Rattle.fr_storage.specs.Storage.{StorageState};
 ghost use Rattle.fr_storage.specs.Standing.{BeginsStanding, StandsAgain, StaysStanding};
-ghost use Rattle.fr_storage.specs.Server.{storage_of, kept_of, refusal_of, store_fault, IsReadingTrouble, IsOpeningTrouble, IsWhole};
+ghost use Rattle.fr_storage.specs.Server.{storage_of, kept_of, refusal_of, store_fault, IsReadingTrouble, IsOpeningTrouble};
 
 use super::Storage;
 use crate::fault::StorageFault;

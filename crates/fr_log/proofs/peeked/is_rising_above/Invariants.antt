@@ -1,5 +1,5 @@
 use Rattle.std.proofs.Common.{◌≡◌, ◌+◌, drop}
-use Rattle.fr_log.specs.Peeked.{is_rising_from}
+use Rattle.fr_mutation.specs.Versioned.{is_rising_from}
 use Rattle.fr_log.proofs.peeked.is_rising_above.Given as goal
 
 -- the answer is that of the records that are left, above the last one

@@ -1,8 +1,9 @@
 use Rattle.std.proofs.Common.{◌≡◌, ℕ, true, false, None, IsTrue, sym, ap, subst, ◌∙◌}
+use Rattle.fr_undo.specs.Pull.{LeavesStages}
 use Rattle.fr_state.specs.Generations.{CoordinatedState}
 use Rattle.fr_state.specs.Same.{is_same_state}
 use Rattle.fr_storage.specs.Course.{IsReopened}
-use Rattle.fr_storage.specs.Server.{Kept, LeavesStages, met_store, storage_of}
+use Rattle.fr_storage.specs.Server.{Kept, met_store, storage_of}
 use Rattle.fr_storage.specs.Storage.{marked_calls, marked_fault}
 use Rattle.fr_storage.specs.Taken.{IsPart}
 use Rattle.fr_storage.proofs.Opened.{at_err, none_refused, not_idle, reopened}

@@ -2,10 +2,11 @@
 ghost use Rattle.std.specs.Prelude.{◌≡◌, ◌≢◌, ◌≤◌, ◌↔◌, ◌||◌, ◌&&◌, false, not, [], ◌∷◌, Ok, Err, None, OnOk, OnErr, IfOk, IfErr, IfSome, IsOk, IsTrue, is_some};
 ghost use Rattle.fr_undo.specs.Calls.{IsTrouble};
 ghost use Rattle.fr_undo.specs.Undo.{undone};
+ghost use Rattle.fr_undo.specs.Pull.{UndoTo, IsWhole, LeavesStages};
 ghost use Rattle.fr_storage.specs.declared.fault.StorageFault.{StorageFault};
-ghost use Rattle.fr_storage.specs.Storage.{UndoTo, broken_at, marked_fault, marked_calls};
+ghost use Rattle.fr_storage.specs.Storage.{broken_at, marked_fault, marked_calls};
 ghost use Rattle.fr_storage.specs.Broken.{after_broken, breaks_off};
-ghost use Rattle.fr_storage.specs.Server.{storage_of, kept_of, met_store, refusal_of, store_fault, IsWhole, LeavesStages};
+ghost use Rattle.fr_storage.specs.Server.{storage_of, kept_of, met_store, refusal_of, store_fault};
 
 use super::super::Storage;
 use crate::fault::StorageFault;

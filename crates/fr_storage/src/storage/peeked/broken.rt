@@ -1,18 +1,18 @@
 //! Records of a log are heard in part: the hear breaks off at a version.
-ghost use Rattle.std.specs.Prelude.{◌≡◌, ◌≢◌, ◌↔◌, ◌||◌, ◌&&◌, false, not, [], Ok, Err, None, Some, OnOk, OnErr, IfOk, IfErr, IfSome, IsOk, IsTrue, is_some};
+ghost use Rattle.std.specs.Prelude.{◌≡◌, ◌≢◌, ◌↔◌, ◌||◌, ◌&&◌, false, not, [], Ok, Err, None, Some, OnOk, OnErr, IfOk, IfErr, IfSome, IsOk, IsTrue, is_some, map};
+ghost use Rattle.fr_mutation.specs.Versioned.{is_rising_from};
 ghost use Rattle.fr_undo.specs.Calls.{IsTrouble};
-ghost use Rattle.fr_log.specs.Peeked.{is_rising_from};
+ghost use Rattle.fr_undo.specs.Pull.{IsCallTrouble, IsWhole, LeavesStages, records_between, apply_of, advance_calls, after_calls};
 ghost use Rattle.fr_storage.specs.declared.fault.StorageFault.{StorageFault};
-ghost use Rattle.fr_storage.specs.Storage.{records_between, after_calls, new_records, broken_at, peeked_fault, peeked_calls};
+ghost use Rattle.fr_storage.specs.Storage.{new_records, broken_at, peeked_fault, peeked_calls};
 ghost use Rattle.fr_storage.specs.Broken.{has_version, stops_at, calls_through, after_broken, breaks_off};
-ghost use Rattle.fr_storage.specs.Server.{storage_of, kept_of, met_store, refusal_of, store_fault, IsCallTrouble, IsWhole, LeavesStages};
+ghost use Rattle.fr_storage.specs.Server.{storage_of, kept_of, met_store, refusal_of, store_fault};
 
 use super::super::Storage;
-use super::{Reach, advance_to, apply_new};
 use crate::fault::StorageFault;
 use fr_base::{Epoch, Version};
 use fr_log::{Peeked, PeekedRecord};
-use fr_undo::{ShardStore, StoreFault};
+use fr_undo::{Reach, ShardStore, StoreFault};
 use std::alloc::Global;
 
 impl<S: ShardStore> Storage<S> {
@@ -159,5 +159,49 @@ fn pull_through<S: ShardStore>(
     };
     apply_new(alloc, store, &reach, records)?;
     advance_to(store, version)?;
+    Ok(())
+}
+
+/// Applies the records of the versions that an answer may bring.
+fn apply_new<S: ShardStore>(
+    alloc: Global,
+    store: &mut S,
+    reach: &Reach,
+    records: &[PeekedRecord],
+) -> Result<(), StoreFault>
+    requires whole { IsWhole S.state S.is_failed S.MayLeave store.old }
+    requires applied { reach.now.applied ≡ (S.state store.old).applied }
+    requires rise { IsTrue (is_rising_from 0 records.now) }
+    ensures ok { OnOk result (S.state store.new
+        ≡ after_calls (S.state store.old)
+        (map apply_of (records_between reach.now.applied reach.now.end records.now))) }
+    ensures whole { OnOk result (IsWhole S.state S.is_failed S.MayLeave store.new) }
+    ensures trouble { IfErr result (IsTrouble S.CanMeet) }
+    ensures idle { records_between reach.now.applied reach.now.end records.now ≡ [] → IsOk result }
+    ensures leaves { OnErr result (LeavesStages (S.MayLeave store.new) (S.state store.old)
+        (map apply_of (records_between reach.now.applied reach.now.end records.now))) }
+{
+    for record in records {
+        // Passed over and not refused: an answer overlaps what is held whenever the one before it was late.
+        if reach.takes(record.version) {
+            store.apply(alloc, record.version, &record.batch)?;
+        }
+    }
+    Ok(())
+}
+
+/// Advances a store to a version, if that is above the one applied.
+fn advance_to<S: ShardStore>(store: &mut S, target: Version) -> Result<(), StoreFault>
+    requires whole { IsWhole S.state S.is_failed S.MayLeave store.old }
+    ensures ok { OnOk result (S.state store.new ≡ after_calls (S.state store.old) (advance_calls (S.state store.old).applied target)) }
+    ensures whole { OnOk result (IsWhole S.state S.is_failed S.MayLeave store.new) }
+    ensures trouble { IfErr result (IsTrouble S.CanMeetInPlace) }
+    ensures idle { advance_calls (S.state store.old).applied target ≡ [] → IsOk result }
+    ensures leaves { OnErr result (LeavesStages (S.MayLeave store.new) (S.state store.old) (advance_calls (S.state store.old).applied target)) }
+{
+    // `<`: the last record may stand at the target, and a store refuses to advance to where it is.
+    if store.applied() < target {
+        store.advance(target)?;
+    }
     Ok(())
 }

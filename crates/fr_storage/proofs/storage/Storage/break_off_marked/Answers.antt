@@ -3,11 +3,12 @@ use Rattle.std.specs.Prelude.{◌==◌, is_some, unwrap_or}
 use Rattle.std.proofs.lemmas.Bool.{eq-eqb, not-true}
 use Rattle.fr_undo.specs.State.{StoreState}
 use Rattle.fr_undo.specs.declared.fault.StoreFault.TheVariants.{Failed}
+use Rattle.fr_undo.specs.Pull.{Call, UndoTo, SetState, LeavesStages}
 use Rattle.fr_storage.specs.declared.fault.StorageFault.TheVariants.{Store}
 use Rattle.fr_state.specs.Same.{is_same_state}
 use Rattle.fr_state.specs.Spelling.{spelling}
-use Rattle.fr_storage.specs.Storage.{Call, UndoTo, SetState, own_epoch, cut_in, marked_fault, marked_calls}
-use Rattle.fr_storage.specs.Server.{Server, storage_of, LeavesStages}
+use Rattle.fr_storage.specs.Storage.{own_epoch, cut_in, marked_fault, marked_calls}
+use Rattle.fr_storage.specs.Server.{Server, storage_of}
 use Rattle.fr_storage.specs.Broken.{after_broken}
 use Rattle.fr_storage.proofs.BreakOff.{not_none}
 use Rattle.fr_storage.proofs.MarkOff.{mark_there, mark_elsewhere}

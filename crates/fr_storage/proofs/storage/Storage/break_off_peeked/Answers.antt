@@ -2,10 +2,11 @@ use Rattle.std.proofs.Common.{Bool, Some, ◌≡◌, Option, List, subst, sym, a
 use Rattle.std.specs.Prelude.{is_some, unwrap_or}
 use Rattle.std.proofs.lemmas.Bool.{eqb-true}
 use Rattle.fr_undo.specs.State.{StoreState}
+use Rattle.fr_undo.specs.Pull.{records_between, Call, after_calls, LeavesStages}
 use Rattle.fr_state.specs.LookUp.{end_of}
-use Rattle.fr_storage.specs.Storage.{records_between, Call, after_calls, peeked_calls}
+use Rattle.fr_storage.specs.Storage.{peeked_calls}
 use Rattle.fr_storage.specs.Broken.{calls_through, after_broken}
-use Rattle.fr_storage.specs.Server.{Server, storage_of, IsSpelled, IsServer, LeavesStages}
+use Rattle.fr_storage.specs.Server.{Server, storage_of, IsSpelled, IsServer}
 use Rattle.fr_storage.proofs.Servers.{opened, own_spelled, broken, rests, pulled_bytes, ended, no_store_trouble}
 use Rattle.fr_storage.proofs.Pulls.{rise}
 use Rattle.fr_storage.proofs.BreakOff.{Off, not_none, off_here, off_nowhere, off_there, off_none, off_leaves, off_seen}

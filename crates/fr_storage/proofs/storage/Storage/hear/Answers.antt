@@ -1,7 +1,8 @@
 use Rattle.std.proofs.Common.{sym, subst}
+use Rattle.fr_undo.specs.Pull.{LeavesStages}
 use Rattle.fr_storage.specs.declared.answer.LogAnswer.{LogAnswer}
 use Rattle.fr_storage.specs.Course.{Mark, Records, calls_of, IsTrueHeard, IsChosenBy}
-use Rattle.fr_storage.specs.Server.{storage_of, LeavesStages}
+use Rattle.fr_storage.specs.Server.{storage_of}
 use Rattle.fr_storage.specs.Standing.{heard_of}
 use Rattle.fr_storage.proofs.Standing.{heard_stands}
 use Rattle.fr_storage.proofs.storage.Storage.hear.Goals as goal

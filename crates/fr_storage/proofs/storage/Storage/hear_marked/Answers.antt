@@ -1,11 +1,12 @@
 use Rattle.std.proofs.Common.{rules, ◌≡◌, ℕ, true, false, None, Some, List, [], ◌∷◌, refl, ap, subst, sym, ◌∙◌}
 use Rattle.fr_undo.specs.declared.fault.StoreFault.TheVariants.{Failed}
+use Rattle.fr_undo.specs.Pull.{Call, UndoTo, SetState, LeavesStages}
 use Rattle.fr_state.specs.Generations.{IsCoordinatedState}
 use Rattle.fr_storage.specs.declared.fault.StorageFault.TheVariants.{Store}
 use Rattle.fr_state.specs.Same.{is_same_state}
 use Rattle.fr_state.specs.Spelling.{spelling}
-use Rattle.fr_storage.specs.Storage.{Call, UndoTo, SetState, marked_fault, marked_calls}
-use Rattle.fr_storage.specs.Server.{Server, storage_of, IsSpelled, LeavesStages}
+use Rattle.fr_storage.specs.Storage.{marked_fault, marked_calls}
+use Rattle.fr_storage.specs.Server.{Server, storage_of, IsSpelled}
 use Rattle.fr_storage.proofs.Servers.{moves, stays, ended, rests, broken, own_spelled, marked_bytes, no_store_fault}
 use Rattle.fr_storage.proofs.storage.Storage.hear_marked.Goals as goal
 

@@ -1,8 +1,9 @@
 use Rattle.std.proofs.Common.{rules, ◌≡◌, ℕ, None, Option, List, subst, sym, ap, ◌∙◌}
 use Rattle.fr_undo.specs.State.{StoreState}
-use Rattle.fr_storage.specs.Storage.{StorageState, Call, after_calls, records_between, new_records, peeked_fault, peeked_calls}
+use Rattle.fr_undo.specs.Pull.{Call, after_calls, records_between, LeavesStages}
+use Rattle.fr_storage.specs.Storage.{StorageState, new_records, peeked_fault, peeked_calls}
 use Rattle.fr_storage.specs.Pull.{pull_calls}
-use Rattle.fr_storage.specs.Server.{Server, storage_of, IsServer, IsSpelled, LeavesStages}
+use Rattle.fr_storage.specs.Server.{Server, storage_of, IsServer, IsSpelled}
 use Rattle.fr_storage.proofs.Servers.{opened, own_spelled, broken, rests, pulls, bytes_pulled, pulled_bytes, ended, taken, no_store_trouble}
 use Rattle.fr_storage.proofs.storage.Storage.hear_peeked.Goals as goal
 

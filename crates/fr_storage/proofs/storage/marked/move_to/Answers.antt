@@ -1,10 +1,9 @@
 use Rattle.std.proofs.Common.{rules, ◌≡◌, List, ℕ, [], ◌∷◌, subst}
 use Rattle.fr_undo.specs.State.{StoreState}
 use Rattle.fr_undo.specs.Undo.{undone}
+use Rattle.fr_undo.specs.Pull.{UndoTo, SetState, LeavesStages}
 use Rattle.fr_state.specs.Spelling.{spelling}
-use Rattle.fr_storage.specs.Storage.{UndoTo, SetState}
-use Rattle.fr_storage.specs.Server.{LeavesStages}
-use Rattle.fr_storage.proofs.Left.{on_err, one_stage, first_stage, next_stage, refused_stages, whole_after}
+use Rattle.fr_undo.proofs.Stages.{on_err, one_stage, first_stage, next_stage, refused_stages, whole_after}
 use Rattle.fr_storage.proofs.storage.marked.move_to.Goals as goal
 
 pub returns-in_err-encode-clause-leaves : goal.returns-in_err-encode-clause-leaves

@@ -1,8 +1,7 @@
 use Rattle.std.proofs.Common.{◌≡◌, ℕ, Some, map, subst, sym, ap, ◌∙◌}
 use Rattle.fr_undo.specs.State.{StoreState}
-use Rattle.fr_storage.specs.Storage.{after_calls, records_between, reached, apply_of, advance_calls}
-use Rattle.fr_storage.specs.Server.{LeavesStages}
-use Rattle.fr_storage.proofs.Left.{on_err, not_ok, after_both, front_stages, last_stages, applied_after}
+use Rattle.fr_undo.specs.Pull.{after_calls, records_between, reached, apply_of, advance_calls, LeavesStages}
+use Rattle.fr_undo.proofs.Stages.{on_err, not_ok, after_both, front_stages, last_stages, applied_after}
 use Rattle.fr_storage.proofs.storage.peeked.broken.pull_through.Goals as goal
 
 pub returns-in_err-apply_new-clause-leaves : goal.returns-in_err-apply_new-clause-leaves

@@ -1,8 +1,7 @@
 use Rattle.std.proofs.Common.{rules, ◌≡◌, Bool, true, cond, nat_lt, [], ◌∷◌, subst, sym}
-use Rattle.fr_storage.specs.Storage.{Advance}
-use Rattle.fr_storage.specs.Server.{LeavesStages}
-use Rattle.fr_storage.proofs.Left.{on_err, refused_stages}
-use Rattle.fr_storage.proofs.storage.peeked.advance_to.Goals as goal
+use Rattle.fr_undo.specs.Pull.{Advance, LeavesStages}
+use Rattle.fr_undo.proofs.Stages.{on_err, refused_stages}
+use Rattle.fr_storage.proofs.storage.peeked.broken.advance_to.Goals as goal
 
 pub returns-in_err-advance-clause-leaves : goal.returns-in_err-advance-clause-leaves
 returns-in_err-advance-clause-leaves g c =

@@ -1,11 +1,10 @@
 use Rattle.std.proofs.Common.{◌≡◌, ◌+◌, ◌∷◌, drop, map, subst, sym, ap, ◌∙◌}
 use Rattle.fr_undo.specs.Undo.{extended}
-use Rattle.fr_storage.specs.Storage.{apply_of, records_between}
-use Rattle.fr_storage.specs.Server.{IsWhole}
-use Rattle.fr_storage.proofs.Applied.{Lies, drop_more, pass, take, leaves}
-use Rattle.fr_storage.proofs.Left.{on_err, refused_stages, whole_after}
-use Rattle.fr_storage.proofs.storage.peeked.apply_new.Goals as goal
-use Rattle.fr_storage.proofs.storage.peeked.apply_new.Goals.{then-takes+in_ok-apply, else-takes}
+use Rattle.fr_undo.specs.Pull.{apply_of, records_between, IsWhole}
+use Rattle.fr_undo.proofs.Applied.{Lies, drop_more, pass, take, leaves}
+use Rattle.fr_undo.proofs.Stages.{on_err, refused_stages, whole_after}
+use Rattle.fr_storage.proofs.storage.peeked.broken.apply_new.Goals as goal
+use Rattle.fr_storage.proofs.storage.peeked.broken.apply_new.Goals.{then-takes+in_ok-apply, else-takes}
 
 pub returns-in_err-apply-clause-leaves : goal.returns-in_err-apply-clause-leaves
 returns-in_err-apply-clause-leaves g c =

@@ -2,13 +2,12 @@
 use Rattle.std.proofs.Common.{◌≡◌, ℕ, zero, suc, Bool, true, false, max, nat_lt, ◌||◌, List, [], ◌∷◌, ◌++◌, map, cond, inl, inr, refl, sym, ◌∙◌, subst, arith}
 use Rattle.std.specs.Prelude.{Contains, Result, Ok, Err, OnErr, IsOk}
 use Rattle.std.proofs.lemmas.Bool.{ltb-true, ltb-false}
+use Rattle.fr_mutation.specs.declared.versioned.VersionedBatch.{VersionedBatch}
 use Rattle.fr_undo.specs.declared.fault.StoreFault.{StoreFault}
 use Rattle.fr_undo.specs.declared.fault.StoreFault.TheVariants.{Device, Full, Failed, Memory, NotAfter, BelowFloor, AboveApplied}
 use Rattle.fr_undo.specs.State.{StoreState}
 use Rattle.fr_undo.specs.Calls.{is_device, met_device, LeavesOneOf, StaysUnlessFailed, Writes}
-use Rattle.fr_log.specs.declared.records.PeekedRecord.{PeekedRecord}
-use Rattle.fr_storage.specs.Storage.{Call, Advance, called, after_calls, stages, apply_of, reached, advance_calls}
-use Rattle.fr_storage.specs.Server.{IsWhole, LeavesStages}
+use Rattle.fr_undo.specs.Pull.{Call, Advance, called, after_calls, stages, apply_of, reached, advance_calls, IsWhole, LeavesStages}
 
 -- ---- stages
 
@@ -101,11 +100,11 @@ whole_after state_of is_failed MayLeave old new after result x e whole writes =
 
 -- ---- versions and floors on the way
 
-pub applied_after : (s : StoreState) (rs : List PeekedRecord) → (after_calls s (map apply_of rs)).applied ≡ reached s.applied rs
+pub applied_after : (s : StoreState) (rs : List VersionedBatch) → (after_calls s (map apply_of rs)).applied ≡ reached s.applied rs
 applied_after s [] = refl
 applied_after s (r ∷ rs) = applied_after (called s (apply_of r)) rs
 
-pub floor_after : (s : StoreState) (rs : List PeekedRecord) → (after_calls s (map apply_of rs)).floor ≡ s.floor
+pub floor_after : (s : StoreState) (rs : List VersionedBatch) → (after_calls s (map apply_of rs)).floor ≡ s.floor
 floor_after s [] = refl
 floor_after s (r ∷ rs) = floor_after (called s (apply_of r)) rs
 

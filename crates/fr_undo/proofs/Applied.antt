@@ -3,16 +3,15 @@ use Rattle.std.proofs.Common.{◌≡◌, ℕ, suc, ◌+◌, ◌<◌, ◌≤◌, 
 use Rattle.std.specs.Prelude.{◌⊎◌, ◌&&◌, IsTrue, Contains}
 use Rattle.std.proofs.lemmas.Bool.{and_parts, leb-true, ltb-true, le-leb}
 use Rattle.std.proofs.Math.Seq.{drop-cons}
+use Rattle.fr_mutation.specs.declared.versioned.VersionedBatch.{VersionedBatch}
+use Rattle.fr_mutation.specs.Versioned.{is_rising_from}
 use Rattle.fr_undo.specs.State.{StoreState}
-use Rattle.fr_log.specs.declared.records.PeekedRecord.{PeekedRecord}
-use Rattle.fr_log.specs.Peeked.{is_rising_from}
-use Rattle.fr_storage.specs.Storage.{called, after_calls, stages, apply_of, is_within, records_between}
-use Rattle.fr_storage.specs.Server.{LeavesStages}
-use Rattle.fr_storage.proofs.Left.{next_stage}
+use Rattle.fr_undo.specs.Pull.{called, after_calls, stages, apply_of, is_within, records_between, LeavesStages}
+use Rattle.fr_undo.proofs.Stages.{next_stage}
 
 -- where the records that are left lie: they rise, above the version applied where that is not the first one; and what they bring to the store
 -- so far is what all of them bring to the first one
-pub record Lies (first now : StoreState) (applied : ℕ) (end : Option ℕ) (all left : List PeekedRecord) : Type 0 where
+pub record Lies (first now : StoreState) (applied : ℕ) (end : Option ℕ) (all left : List VersionedBatch) : Type 0 where
   pub rise : IsTrue (is_rising_from 0 left)
   pub above : (now.applied ≡ applied) ⊎ IsTrue (is_rising_from (now.applied + 1) left)
   pub same : after_calls now (map apply_of (records_between applied end left)) ≡ after_calls first (map apply_of (records_between applied end all))
@@ -20,20 +19,20 @@ pub record Lies (first now : StoreState) (applied : ℕ) (end : Option ℕ) (all
   pub none : records_between applied end all ≡ [] → records_between applied end left ≡ []
 
 -- versions that rise from one rise from a lower one
-pub rise_lower : (v w : ℕ) (rs : List PeekedRecord) → v ≤ w → IsTrue (is_rising_from w rs) → IsTrue (is_rising_from v rs)
+pub rise_lower : (v w : ℕ) (rs : List VersionedBatch) → v ≤ w → IsTrue (is_rising_from w rs) → IsTrue (is_rising_from v rs)
 rise_lower v w [] le rises = refl
 rise_lower v w (r ∷ rs) le rises =
     let parts = and_parts (nat_le w r.version) (is_rising_from (r.version + 1) rs) rises in
     let low = leb-true w r.version parts.0 in
     rw (le-leb v r.version (omega arith), parts.1) refl
 
-pub begin : (s : StoreState) (end : Option ℕ) (rs : List PeekedRecord) → IsTrue (is_rising_from 0 rs) → (applied : ℕ) → applied ≡ s.applied → Lies s s applied end rs rs
+pub begin : (s : StoreState) (end : Option ℕ) (rs : List VersionedBatch) → IsTrue (is_rising_from 0 rs) → (applied : ℕ) → applied ≡ s.applied → Lies s s applied end rs rs
 begin s end rs rises applied e = record { rise = rises; above = inl (sym e); same = refl; stages = λ t h. h; none = λ h. h }
 
 pub drop_more : {X : Type 0} (xs : List X) (i : ℕ) (d x : X) → i < length xs → x ≡ get_or xs i d → drop i xs ≡ x ∷ drop (i + 1) xs
 drop_more xs i d x within is = let e : suc i ≡ i + 1 = omega arith in drop-cons xs i d within ∙ (λ k. sym is k ∷ drop (e k) xs)
 
-module _ (first now : StoreState) (applied : ℕ) (end : Option ℕ) (all : List PeekedRecord) (r : PeekedRecord) (rs : List PeekedRecord) where
+module _ (first now : StoreState) (applied : ℕ) (end : Option ℕ) (all : List VersionedBatch) (r : VersionedBatch) (rs : List VersionedBatch) where
   takes : Bool
   takes = nat_lt applied r.version && is_within end r.version
 

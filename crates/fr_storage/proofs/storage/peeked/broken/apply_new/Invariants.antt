@@ -1,7 +1,7 @@
 use Rattle.std.proofs.Common.{drop}
-use Rattle.fr_storage.specs.Server.{IsWhole}
-use Rattle.fr_storage.proofs.Applied.{Lies}
-use Rattle.fr_storage.proofs.storage.peeked.apply_new.Given as goal
+use Rattle.fr_undo.specs.Pull.{IsWhole}
+use Rattle.fr_undo.proofs.Applied.{Lies}
+use Rattle.fr_storage.proofs.storage.peeked.broken.apply_new.Given as goal
 
 -- what is left of the records, applied to the store so far, is all of them applied to the first store
 abbrev pub invariant-loop-record : goal.invariant-loop-record

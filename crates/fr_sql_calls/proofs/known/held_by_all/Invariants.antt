@@ -1,0 +1,20 @@
+use Rattle.std.proofs.Common.{◌≡◌, ℕ, List, None, Ok, cond, drop}
+use Rattle.std.specs.Option.{option_or}
+use Rattle.std.specs.BTreeMap as tree
+use Rattle.sqlite.specs.Held.{state}
+use Rattle.fr_base.specs.Bytes.{bytes_cmp}
+use Rattle.fr_undo.specs.Pull.{any_touched, records_between}
+use Rattle.fr_sql_rows.specs.Rows.{value_in}
+use Rattle.fr_sql_calls.specs.WorkCalls.{Looks}
+use Rattle.fr_sql_calls.proofs.known.held_by_all.Given as goal
+
+-- what is known and what is left to be looked up are what all batches touch
+abbrev pub invariant-loop-record : goal.invariant-loop-record
+invariant-loop-record g l =
+    let first = state g.S.Store l.fn.conn in
+    let held = value_in (first.now.trees 0) in
+    record {
+      looks : Looks {T = Unit {0}} first (state g.S.Store l.conn) (Ok tt);
+      known : (q : List ℕ) → option_or (tree.get bytes_cmp l.known q) (cond (any_touched (records_between l.reach.applied l.reach.end (drop l.record-index l.records)) q) (held q) None)
+          ≡ cond (any_touched (records_between l.reach.applied l.reach.end l.records) q) (held q) None;
+    }
