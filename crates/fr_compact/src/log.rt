@@ -5,14 +5,15 @@ use crate::compact::Compact;
 use fr_base::Memory;
 use fr_log::LogAsk;
 use fr_record_log::laws::spelled_law;
-use fr_record_log::{FileLog, spelled};
+use fr_record_log::{PackedLog, spelled};
 use std::alloc::Global;
 
 /// The bytes that the records of a push leave free: some 140 pops take as many.
 const SPARE: usize = 4096;
 
-/// The records of its whole state: no longer than those by which it came there, as each of them stands for one of these.
-impl Compact for FileLog {
+/// The records of its whole state: no longer than those by which it came there, as each of them stands for one of these
+/// or for many.
+impl Compact for PackedLog {
     ghost use Rattle.fr_record_log.specs.Spelled.{spelled_log};
     ghost use Rattle.fr_compact.specs.LogSpare.{spare_log};
 

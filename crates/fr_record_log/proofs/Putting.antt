@@ -1,7 +1,7 @@
 -- The records of a log's whole state, put into a group one after the other.
-use Rattle.std.proofs.Common.{◌≡◌, ℕ, ◌+◌, ◌<◌, Bool, true, false, List, [], ◌∷◌, ◌++◌, length, get_or, map, take, Some, None, Ok, Err, Result, Vec, Global, sym, ap, ◌∙◌, append_assoc, arith}
+use Rattle.std.proofs.Common.{◌≡◌, ℕ, suc, ◌+◌, ◌<◌, ◌≤◌, drop, drop-cons, Bool, true, false, List, [], ◌∷◌, ◌++◌, length, get_or, map, Some, None, Ok, Err, Result, Vec, Global, sym, ap, ◌∙◌, append_assoc, arith}
 use Rattle.std.specs.Prelude.{IfOk}
-use Rattle.std.proofs.lemmas.List.{append-nil, map-append, take_more, get_or-map, length-map}
+use Rattle.std.proofs.lemmas.List.{append-nil, map-append, drop_all, get_or-map, length-map}
 use Rattle.fr_base.specs.declared.memory.Memory.{Memory}
 use Rattle.fr_mutation.specs.declared.mutation.Mutation.{Mutation}
 use Rattle.fr_tags.specs.declared.body.Body.{Body}
@@ -11,8 +11,8 @@ use Rattle.fr_log.specs.Seed.{SeedContent}
 use Rattle.fr_log.specs.Push.{PushContent}
 use Rattle.fr_log.specs.Pushes.{batch_at, pushed_batches, pushed_numbers}
 use Rattle.fr_log.specs.LogState.{LogState}
-use Rattle.fr_record_log.specs.Spelling.{spelled_head, spelled_seeded, spelled_push}
-use Rattle.fr_record_log.specs.Spelled.{body_of, spelled_tag, spelled_stop, spelled_from, spelled_log}
+use Rattle.fr_record_log.specs.Spelling.{spelled_head, spelled_seeded}
+use Rattle.fr_record_log.specs.Spelled.{body_of, spelled_tag, spelled_stop, spelled_waiting, put_out, left_waiting, spelled_pushes, spelled_from, spelled_log}
 
 -- ---- the body of one tag
 
@@ -46,15 +46,21 @@ pub ok_made : (ps : List PushContent) (i : ℕ) (r : Result PushContent Memory) 
 ok_made ps i (Ok p) x y is same at = λ d. is ∙ same ∙ at d
 ok_made ps i (Err f) x y is same at = is
 
--- one push more
-pub one_pushed : (before : List (List ℕ)) (group : List (Vec ℕ Global)) (v : Vec ℕ Global) (ps : List PushContent) (p : PushContent) (i : ℕ) → records_of group ≡ before ++ map spelled_push (take i ps) → i < length ps
-    → ((d : PushContent) → p ≡ get_or ps i d) → v.items ≡ spelled_push p → records_of (group ++ v ∷ []) ≡ before ++ map spelled_push (take (i + 1) ps)
-one_pushed before group v ps p i so_far within is bytes =
-    let here : get_or ps i p ≡ p = sym (is p) in
-    let more : map spelled_push (take (i + 1) ps) ≡ map spelled_push (take i ps) ++ spelled_push p ∷ [] =
-    ap (map spelled_push) (take_more ps i p within ∙ ap (λ x. take i ps ++ x ∷ []) here) ∙ map-append spelled_push (take i ps) (p ∷ []) in
-    map-append (λ (w : Vec ℕ Global). w.items) group (v ∷ []) ∙ ap (λ xs. xs ++ v.items ∷ []) so_far ∙ append_assoc before (map spelled_push (take i ps)) (v.items ∷ [])
-    ∙ ap (λ xs. before ++ xs) (ap (λ x. map spelled_push (take i ps) ++ x ∷ []) bytes ∙ sym more)
+-- no push yet, one push more, and the last
+pub next_put : (before put : List (List ℕ)) (waiting left : List PushNumbers) (ps : List PushContent) (p d : PushContent) (i : ℕ) (total : List (List ℕ)) → i < length ps → ((d : PushContent) → p ≡ get_or ps i d)
+    → put ≡ before ++ put_out waiting p → left ≡ left_waiting waiting p → before ++ spelled_pushes waiting (drop i ps) ≡ total → put ++ spelled_pushes left (drop (i + 1) ps) ≡ total
+unfolding spelled_pushes
+next_put before put waiting left ps p d i total lt is e waits so_far =
+    let on : i + 1 ≡ suc i = omega arith in
+    let here : drop i ps ≡ p ∷ drop (i + 1) ps = drop-cons ps i d lt ∙ ap (λ k. get_or ps i d ∷ drop k ps) (sym on) ∙ ap (λ x. x ∷ drop (i + 1) ps) (sym (is d)) in
+    let all : before ++ spelled_pushes waiting (drop i ps) ≡ before ++ (put_out waiting p ++ spelled_pushes (left_waiting waiting p) (drop (i + 1) ps)) = ap (λ xs. before ++ spelled_pushes waiting xs) here in
+    rw (e, waits) (append_assoc before (put_out waiting p) (spelled_pushes (left_waiting waiting p) (drop (i + 1) ps))) ∙ sym all ∙ so_far
+
+pub last_put : (before put : List (List ℕ)) (waiting : List PushNumbers) (ps : List PushContent) (i : ℕ) (total : List (List ℕ)) → length ps ≤ i → put ≡ before ++ spelled_waiting waiting → before ++ spelled_pushes waiting (drop i ps) ≡ total → put ≡ total
+unfolding spelled_pushes
+last_put before put waiting ps i total le e so_far =
+    let here : drop i ps ≡ [] = drop_all i ps le in
+    e ∙ ap (λ xs. before ++ spelled_pushes waiting xs) (sym here) ∙ so_far
 
 -- ---- the lock
 
@@ -69,10 +75,10 @@ one_stop group v b e bytes = rw e (map-append (λ (w : Vec ℕ Global). w.items)
 regroup : (h : List ℕ) (a b c d : List (List ℕ)) → ((((h ∷ []) ++ a) ++ b) ++ c) ++ d ≡ h ∷ (a ++ (b ++ (c ++ d)))
 regroup h a b c d = simp append_assoc
 
-pub all_of : (l : LogState) (s : SeedContent) (r1 r2 r3 r4 r5 : List (List ℕ)) → Some s ≡ l.seed → r1 ≡ spelled_head l s ∷ [] → r2 ≡ r1 ++ map spelled_seeded s.records → r3 ≡ r2 ++ map spelled_push l.pushes
+pub all_of : (l : LogState) (s : SeedContent) (r1 r2 r3 r4 r5 : List (List ℕ)) → Some s ≡ l.seed → r1 ≡ spelled_head l s ∷ [] → r2 ≡ r1 ++ map spelled_seeded s.records → r3 ≡ r2 ++ spelled_pushes [] l.pushes
     → r4 ≡ r3 ++ map spelled_tag l.popped → r5 ≡ r4 ++ spelled_stop l.stopped → r5 ≡ spelled_log l
 all_of l s r1 r2 r3 r4 r5 is a b c d e =
-    rw (e, d, c, b, a) (regroup (spelled_head l s) (map spelled_seeded s.records) (map spelled_push l.pushes) (map spelled_tag l.popped) (spelled_stop l.stopped) ∙ ap (λ o. spelled_from o l) is)
+    rw (e, d, c, b, a) (regroup (spelled_head l s) (map spelled_seeded s.records) (spelled_pushes [] l.pushes) (map spelled_tag l.popped) (spelled_stop l.stopped) ∙ ap (λ o. spelled_from o l) is)
 
 pub none_of_log : (l : LogState) (records : List (List ℕ)) → records ≡ [] → None ≡ l.seed → records ≡ spelled_log l
 none_of_log l records e is = e ∙ ap (λ o. spelled_from o l) is

@@ -22,7 +22,7 @@ pub(crate) struct Numbers {
 }
 
 /// A byte, and what follows it.
-fn byte_at(bytes: &[u8]) -> Result<(u8, &[u8]), RecordReadFault>
+pub(crate) fn byte_at(bytes: &[u8]) -> Result<(u8, &[u8]), RecordReadFault>
     ensures { Finds (λ x. (x.0, x.1.now)) result (byte_at bytes.now) }
 {
     match bytes {

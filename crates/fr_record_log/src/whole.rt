@@ -3,13 +3,14 @@ ghost use Rattle.std.specs.Prelude.{◌≡◌, ◌<◌, ◌≤◌, ◌+◌, ◌^
 ghost use Rattle.fr_record.specs.Group.{records_of};
 ghost use Rattle.fr_log.specs.Push.{PushContent, IsPush};
 ghost use Rattle.fr_log.specs.Pushes.{pushed_numbers, pushed_batches, batch_at};
+ghost use Rattle.fr_strides.specs.Strides.{IsNumbers};
+ghost use Rattle.fr_record_log.specs.Limits.{IsSoundPush};
 ghost use Rattle.fr_record_log.specs.LogFile.{IsSettledLog};
-ghost use Rattle.fr_record_log.specs.Spelling.{spelled_push};
-ghost use Rattle.fr_record_log.specs.Spelled.{spelled_tag, spelled_stop, spelled_log, tagged, body_of};
+ghost use Rattle.fr_record_log.specs.Spelled.{spelled_tag, spelled_stop, spelled_log, spelled_pushes, spelled_waiting, put_out, left_waiting, is_bare, tagged, body_of};
 
 use crate::limits::push_within_limits;
 use crate::reading::{tag_of, version_of};
-use crate::spelling::{head, lock, popped, pushed, put_records};
+use crate::spelling::{bare, head, lock, popped, pushed, put_records};
 use fr_base::{Epoch, Memory, Version};
 use fr_log::{Log, PoppedTag, Push, PushNumbers, Seed};
 use fr_state::CoordState;
@@ -18,8 +19,9 @@ use std::alloc::Global;
 
 /// The records of a log's whole state: what is left of its seed and of its pushes, how far its tags are popped, and its
 /// lock. A file of these alone opens to the same log as one of all the records by which it came there
-/// (`laws::spelled_law`), so they can take their place. It costs what the records take, and for each push a look-up
-/// in each of 32 tags, since a log holds batches by tag.
+/// (`laws::spelled_law`), so they can take their place. Pushes without bodies have one record for many. It costs what the
+/// records take, 24 bytes of memory for each push, and for each a look-up in each of 32 tags, since a log holds batches by
+/// tag.
 pub fn spelled(alloc: Global, log: &Log) -> Result<Vec<Vec<u8>>, Memory>
     requires { IsSettledLog log.now }
     ensures records { IfOk result (λ group. records_of group.items ≡ spelled_log log.now) }
@@ -52,7 +54,8 @@ fn spelled_from(alloc: Global, log: &Log, seed: &Seed) -> Result<Vec<Vec<u8>>, M
     Ok(group)
 }
 
-/// Adds the records of a log's pushes to a group, of which the numbers are at hand: the mark first.
+/// Adds the records of a log's pushes to a group, of which the numbers are at hand: the mark first, and one record for
+/// many pushes without bodies.
 fn put_pushes(
     group: &mut Vec<Vec<u8>>,
     alloc: Global,
@@ -62,14 +65,75 @@ fn put_pushes(
     requires log { IsSettledLog log.now }
     requires numbers { numbers.now ≡ map pushed_numbers log.now.pushes }
     requires short { All (λ v. length v.items < 2 ^ 32) group.old.items }
-    ensures records { OnOk result (records_of group.new.items ≡ records_of group.old.items ++ map spelled_push log.now.pushes) }
+    ensures records { OnOk result (records_of group.new.items ≡ records_of group.old.items ++ spelled_pushes [] log.now.pushes) }
     ensures short { OnOk result (All (λ v. length v.items < 2 ^ 32) group.new.items) }
 {
+    let mut waiting = Vec::new(alloc);
     for index in 0..numbers.len() {
         let held = push_at(alloc, log, index, numbers[index])?;
         push_within_limits(&held);
-        group.push(pushed(alloc, &held)?)?;
+        put_push(group, alloc, &mut waiting, &held, numbers[index])?;
     }
+    put_waiting(group, alloc, &mut waiting)
+}
+
+/// Adds the record of a push to a group, behind that of those that wait; or lets it wait, if it has no bodies.
+fn put_push(
+    group: &mut Vec<Vec<u8>>,
+    alloc: Global,
+    waiting: &mut Vec<PushNumbers>,
+    held: &Push,
+    numbers: PushNumbers,
+) -> Result<(), Memory>
+    requires sound { IsSoundPush held.now }
+    requires numbers { numbers ≡ pushed_numbers held.now }
+    requires few { length waiting.old.items ≤ 255 }
+    requires each { All IsNumbers waiting.old.items }
+    requires short { All (λ v. length v.items < 2 ^ 32) group.old.items }
+    ensures records { OnOk result (records_of group.new.items ≡ records_of group.old.items ++ put_out waiting.old.items held.now) }
+    ensures waiting { OnOk result (waiting.new.items ≡ left_waiting waiting.old.items held.now) }
+    ensures few { OnOk result (length waiting.new.items ≤ 255) }
+    ensures each { OnOk result (All IsNumbers waiting.new.items) }
+    ensures short { OnOk result (All (λ v. length v.items < 2 ^ 32) group.new.items) }
+{
+    if !is_bare(held) {
+        put_waiting(group, alloc, waiting)?;
+        group.push(pushed(alloc, held)?)?;
+        return Ok(());
+    }
+    // A record of many has at most 255.
+    if waiting.len() >= 255 {
+        put_waiting(group, alloc, waiting)?;
+    }
+    waiting.push(numbers)?;
+    Ok(())
+}
+
+/// Whether a push has neither bodies nor a mark.
+fn is_bare(push: &Push) -> bool
+    ensures { result ≡ is_bare push.now }
+{
+    push.marked().is_none() && push.bodies().is_empty()
+}
+
+/// Adds the record of the pushes that wait to a group, if some do. Then none do.
+fn put_waiting(
+    group: &mut Vec<Vec<u8>>,
+    alloc: Global,
+    waiting: &mut Vec<PushNumbers>,
+) -> Result<(), Memory>
+    requires few { length waiting.old.items ≤ 255 }
+    requires each { All IsNumbers waiting.old.items }
+    requires short { All (λ v. length v.items < 2 ^ 32) group.old.items }
+    ensures records { OnOk result (records_of group.new.items ≡ records_of group.old.items ++ spelled_waiting waiting.old.items) }
+    ensures waiting { OnOk result (waiting.new.items ≡ []) }
+    ensures short { OnOk result (All (λ v. length v.items < 2 ^ 32) group.new.items) }
+{
+    if waiting.is_empty() {
+        return Ok(());
+    }
+    group.push(bare(alloc, waiting.as_slice())?)?;
+    waiting.clear();
     Ok(())
 }
 
@@ -143,7 +207,7 @@ fn mark_of(
 }
 
 /// The push of these numbers and these bodies.
-fn push_of(epoch: Epoch, numbers: PushNumbers, bodies: Vec<Body>) -> Push
+pub(crate) fn push_of(epoch: Epoch, numbers: PushNumbers, bodies: Vec<Body>) -> Push
     requires push { IsPush
         (record {
           epoch = epoch;
