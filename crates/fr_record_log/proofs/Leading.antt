@@ -187,7 +187,7 @@ module _ (many : ManyAreRead) (is_ask : AskIsFileAsk) where
       let fits = All-head IsSoundPush p more within in
       let goes_on = ask_sound (holding l s []) (holding l s (p ∷ [])) (Push p) sound fits here.after in
       let rest : Stands many is_ask l s (p ∷ []) more = record { sound = goes_on; next = behind_first l s p more own chain marked; within = All-tail IsSoundPush p more within } in
-      ap (λ b. replayed replay_packed (Some (holding l s [])) (cond b (cond true [] []) ([] ++ spelled_push p ∷ []) ++ spelled_pushes (cond b (cond true ([] ++ pushed_numbers p ∷ []) (pushed_numbers p ∷ [])) []) more)) (not_bare p marked.0)
+      ap (λ b. replayed replay_packed (Some (holding l s [])) (cond b [] (spelled_push p ∷ []) ++ spelled_pushes (cond b (pushed_numbers p ∷ []) []) more)) (not_bare p marked.0)
       ∙ behind (holding l s []) (holding l s (p ∷ [])) (spelled_push p ∷ []) (spelled_pushes [] more) (ask_leads (holding l s []) (holding l s (p ∷ [])) (Push p) sound fits here.changes here.after)
       ∙ pushes_lead many is_ask l s more (p ∷ []) [] rest (omega arith)
 

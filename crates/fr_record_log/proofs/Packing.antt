@@ -75,6 +75,9 @@ chained l v (n ∷ ns) more own chain sound =
       ),
     )
 
+regroup : (f b : List PushContent) (x : PushContent) (m : List PushContent) → ((f ++ b) ++ x ∷ []) ++ m ≡ f ++ (b ++ x ∷ m)
+regroup f b x m = simp append_assoc
+
 -- ---- pushes of which the log takes each
 
 module _ (many : ManyAreRead) (is_ask : AskIsFileAsk) (l : LogState) (s : SeedContent) where
@@ -150,9 +153,6 @@ module _ (many : ManyAreRead) (is_ask : AskIsFileAsk) (l : LogState) (s : SeedCo
       own : p.epoch ≡ l.epoch
       own = (All-head (IsOwnPush l.epoch (holds l)) p more (all_on front (bares l.epoch ns) (p ∷ more) h).next.own).epoch
 
-      all : List PushContent
-      all = bares l.epoch ns ++ p ∷ more
-
       waits : (b : Bool) → nat_lt (length ns) 255 ≡ b → p ≡ bare l.epoch (pushed_numbers p)
           → replayed replay_packed (Some (holding l s front)) (cond b [] (spelled_waiting ns) ++ spelled_pushes (cond b (ns ++ pushed_numbers p ∷ []) (pushed_numbers p ∷ [])) more) ≡ Some (holding l s (front ++ (bares l.epoch ns ++ p ∷ more)))
       waits true less is =
@@ -177,9 +177,6 @@ module _ (many : ManyAreRead) (is_ask : AskIsFileAsk) (l : LogState) (s : SeedCo
           ∙ behind (holding l s (front ++ bares l.epoch ns)) (holding l s ((front ++ bares l.epoch ns) ++ p ∷ [])) (spelled_push p ∷ []) (spelled_pushes [] more) (push_leads (front ++ bares l.epoch ns) p more on)
           ∙ rest ((front ++ bares l.epoch ns) ++ p ∷ []) [] (one_on (front ++ bares l.epoch ns) p more on) (omega arith)
           ∙ ap (λ xs. Some (holding l s xs)) (regroup front (bares l.epoch ns) p more)
-
-      regroup : (f b : List PushContent) (x : PushContent) (m : List PushContent) → ((f ++ b) ++ x ∷ []) ++ m ≡ f ++ (b ++ x ∷ m)
-      regroup f b x m = simp append_assoc
 
   pub pushes_lead : (more front : List PushContent) (ns : List PushNumbers) → Leads front ns more
   pushes_lead [] front ns = none_left front ns

@@ -45,14 +45,21 @@ abbrev pub spelled_waiting : List PushNumbers → List (List ℕ)
 spelled_waiting [] = []
 spelled_waiting (n ∷ ns) = spelled_bare (n ∷ ns) ∷ []
 
--- what is written as a push comes: one without bodies waits for others, of which a record has 255 at most. Any other has a record of
--- its own, behind that of those that wait
-abbrev pub put_out : List PushNumbers → PushContent → List (List ℕ)
-put_out waiting p = if is_bare p then (if nat_lt (length waiting) 255 then [] else spelled_waiting waiting) else spelled_waiting waiting ++ spelled_push p ∷ []
+-- what is written before a push without bodies waits with those that do: a record of many has 255 at most
+abbrev pub waited_out : List PushNumbers → List (List ℕ)
+waited_out waiting = if nat_lt (length waiting) 255 then [] else spelled_waiting waiting
 
--- what waits then
+-- and those that wait then
+abbrev pub waited : List PushNumbers → PushNumbers → List PushNumbers
+waited waiting n = if nat_lt (length waiting) 255 then waiting ++ n ∷ [] else n ∷ []
+
+-- what is written as a push comes: one that has bodies or a mark has a record of its own, behind that of those that wait
+abbrev pub put_out : List PushNumbers → PushContent → List (List ℕ)
+put_out waiting p = if is_bare p then waited_out waiting else spelled_waiting waiting ++ spelled_push p ∷ []
+
+-- and those that wait then
 abbrev pub left_waiting : List PushNumbers → PushContent → List PushNumbers
-left_waiting waiting p = if is_bare p then (if nat_lt (length waiting) 255 then waiting ++ pushed_numbers p ∷ [] else pushed_numbers p ∷ []) else []
+left_waiting waiting p = if is_bare p then waited waiting (pushed_numbers p) else []
 
 -- the records of pushes, behind some that wait
 unfoldable pub spelled_pushes : List PushNumbers → List PushContent → List (List ℕ)

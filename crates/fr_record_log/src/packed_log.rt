@@ -110,7 +110,8 @@ fn take_bare(log: &mut Log, alloc: Global, numbers: &[PushNumbers]) -> Result<()
     match take_each(log, alloc, numbers) {
         Ok(()) => Ok(()),
         Err(fault) => {
-            // Some of them may be held. A push lets nothing go, so the log can be what it was.
+            // Some of them may be held already, and a record is read whole or not at all. A push lets nothing go, so
+            // the log can be what it was (invariant 5).
             log.go_back(place);
             Err(fault)
         }
@@ -226,6 +227,7 @@ impl Recorded for PackedLog {
 
     fn read(&mut self, alloc: Global, change: &[u8]) -> Result<(), RecordReadFault> {
         let (kind, rest) = byte_at(change)?;
+        // Only here, since a file of format 1 with such a record is `Broken` (invariant 8).
         if kind != BARE {
             return self.file.read(alloc, change);
         }

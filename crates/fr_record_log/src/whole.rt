@@ -6,7 +6,7 @@ ghost use Rattle.fr_log.specs.Pushes.{pushed_numbers, pushed_batches, batch_at};
 ghost use Rattle.fr_strides.specs.Strides.{IsNumbers};
 ghost use Rattle.fr_record_log.specs.Limits.{IsSoundPush};
 ghost use Rattle.fr_record_log.specs.LogFile.{IsSettledLog};
-ghost use Rattle.fr_record_log.specs.Spelled.{spelled_tag, spelled_stop, spelled_log, spelled_pushes, spelled_waiting, put_out, left_waiting, is_bare, tagged, body_of};
+ghost use Rattle.fr_record_log.specs.Spelled.{spelled_tag, spelled_stop, spelled_log, spelled_pushes, spelled_waiting, waited_out, waited, put_out, left_waiting, is_bare, tagged, body_of};
 
 use crate::limits::push_within_limits;
 use crate::reading::{tag_of, version_of};
@@ -74,7 +74,8 @@ fn put_pushes(
         push_within_limits(&held);
         put_push(group, alloc, &mut waiting, &held, numbers[index])?;
     }
-    put_waiting(group, alloc, &mut waiting)
+    put_waiting(group, alloc, &mut waiting)?;
+    Ok(())
 }
 
 /// Adds the record of a push to a group, behind that of those that wait; or lets it wait, if it has no bodies.
@@ -96,15 +97,38 @@ fn put_push(
     ensures each { OnOk result (All IsNumbers waiting.new.items) }
     ensures short { OnOk result (All (λ v. length v.items < 2 ^ 32) group.new.items) }
 {
-    if !is_bare(held) {
-        put_waiting(group, alloc, waiting)?;
-        group.push(pushed(alloc, held)?)?;
+    if is_bare(held) {
+        let_wait(group, alloc, waiting, numbers)?;
         return Ok(());
     }
-    // A record of many has at most 255.
-    if waiting.len() >= 255 {
-        put_waiting(group, alloc, waiting)?;
+    put_waiting(group, alloc, waiting)?;
+    group.push(pushed(alloc, held)?)?;
+    Ok(())
+}
+
+/// Lets a push without bodies wait. If 255 do, their record is added to a group before: it has no more.
+fn let_wait(
+    group: &mut Vec<Vec<u8>>,
+    alloc: Global,
+    waiting: &mut Vec<PushNumbers>,
+    numbers: PushNumbers,
+) -> Result<(), Memory>
+    requires numbers { IsNumbers numbers }
+    requires few { length waiting.old.items ≤ 255 }
+    requires each { All IsNumbers waiting.old.items }
+    requires short { All (λ v. length v.items < 2 ^ 32) group.old.items }
+    ensures records { OnOk result (records_of group.new.items ≡ records_of group.old.items ++ waited_out waiting.old.items) }
+    ensures waiting { OnOk result (waiting.new.items ≡ waited waiting.old.items numbers) }
+    ensures few { OnOk result (length waiting.new.items ≤ 255) }
+    ensures each { OnOk result (All IsNumbers waiting.new.items) }
+    ensures short { OnOk result (All (λ v. length v.items < 2 ^ 32) group.new.items) }
+{
+    let count = waiting.len();
+    if count < 255 {
+        waiting.push(numbers)?;
+        return Ok(());
     }
+    put_waiting(group, alloc, waiting)?;
     waiting.push(numbers)?;
     Ok(())
 }
