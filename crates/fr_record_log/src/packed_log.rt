@@ -1,12 +1,11 @@
 //! Logs whose files let go.
-ghost use Rattle.std.specs.Prelude.{◌≡◌, ◌<◌, ◌≤◌, Err, None, Some, All, OnOk, OnErr};
+ghost use Rattle.std.specs.Prelude.{◌≡◌, ◌<◌, ◌≤◌, ◌∷◌, List, Err, None, Some, All, OnOk, OnErr};
 ghost use Rattle.fr_record_node.specs.declared.fault.RecordReadFault.{RecordReadFault};
-ghost use Rattle.fr_log.specs.LogState.{LogState, fresh_log};
+ghost use Rattle.fr_log.specs.declared.pushes.header.PushNumbers.{PushNumbers};
+ghost use Rattle.fr_log.specs.LogState.{fresh_log};
 ghost use Rattle.fr_log.specs.Checkpoint.{Extends};
 ghost use Rattle.fr_strides.specs.Strides.{IsNumbers};
-ghost use Rattle.fr_strides.specs.Many.{many_of};
 ghost use Rattle.fr_record_log.specs.LogFile.{IsSettledLog};
-ghost use Rattle.fr_record_log.specs.Reading.{◌>>=◌};
 ghost use Rattle.fr_record_log.specs.Packed.{taken_bare};
 
 use crate::log_file::{FileLog, take_ask};
