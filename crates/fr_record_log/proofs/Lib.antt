@@ -9,6 +9,7 @@ pub mod Pushing
 pub mod Popping
 pub mod Packing
 pub mod Bares
+pub mod Floor
 pub mod Leading
 pub mod Tagged
 pub mod Held

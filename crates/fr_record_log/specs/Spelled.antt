@@ -1,5 +1,5 @@
 -- The records of a log's whole state.
-use Rattle.std.specs.Prelude.{◌≡◌, ℕ, zero, suc, Bool, true, false, ◌&&◌, nat_lt, List, [], ◌∷◌, ◌++◌, length, map, Option, None, Some, is_none, if◌then◌else◌}
+use Rattle.std.specs.Prelude.{◌≡◌, ℕ, zero, suc, ◌<◌, ◌≤◌, Bool, true, false, ◌&&◌, nat_lt, List, [], ◌∷◌, ◌++◌, length, map, Option, None, Some, is_none, if◌then◌else◌}
 use Rattle.fr_mutation.specs.declared.mutation.Mutation.{Mutation}
 use Rattle.fr_tags.specs.declared.body.Body.{Body}
 use Rattle.fr_log.specs.Seed.{SeedContent}
@@ -7,7 +7,8 @@ use Rattle.fr_log.specs.Push.{PushContent}
 use Rattle.fr_log.specs.Pushes.{batch_at, pushed_batches, pushed_numbers}
 use Rattle.fr_log.specs.declared.pushes.header.PushNumbers.{PushNumbers}
 use Rattle.fr_log.specs.declared.popped.PoppedTag.{PoppedTag}
-use Rattle.fr_log.specs.LogState.{LogState}
+use Rattle.fr_log.specs.Left.{popped_at}
+use Rattle.fr_log.specs.LogState.{LogState, holds}
 use Rattle.fr_record_node.specs.Replay.{replayed}
 use Rattle.fr_record_log.specs.Spelling.{spelled_head, spelled_seeded, spelled_push, spelled_popped}
 use Rattle.fr_record_log.specs.LogFile.{fresh_of, IsSettledLog}
@@ -31,6 +32,10 @@ spelled_tag p = spelled_popped p.tag p.version
 abbrev pub spelled_stop : Bool → List (List ℕ)
 spelled_stop false = []
 spelled_stop true = (5 ∷ []) ∷ []
+
+-- each tag that a log has is popped through this version, or further
+abbrev pub IsPoppedThrough : LogState → ℕ → Type 0
+IsPoppedThrough l version = (tag : ℕ) → tag < 32 → holds l tag ≡ true → version ≤ popped_at l.popped tag
 
 abbrev pub is_without : List Body → Bool
 is_without [] = true

@@ -1,12 +1,14 @@
 //! The records of a log's whole state.
-ghost use Rattle.std.specs.Prelude.{◌≡◌, ◌<◌, ◌≤◌, ◌+◌, ◌^◌, ◌++◌, [], None, Some, length, map, slice_index_or, All, IfOk, OnOk};
+ghost use Rattle.std.specs.Prelude.{◌≡◌, ◌<◌, ◌≤◌, ◌+◌, ◌^◌, ◌++◌, [], true, None, Some, length, map, slice_index_or, All, IfOk, OnOk};
 ghost use Rattle.fr_record.specs.Group.{records_of};
+ghost use Rattle.fr_log.specs.Left.{popped_at};
+ghost use Rattle.fr_log.specs.LogState.{holds};
 ghost use Rattle.fr_log.specs.Push.{PushContent, IsPush};
 ghost use Rattle.fr_log.specs.Pushes.{pushed_numbers, pushed_batches, batch_at};
 ghost use Rattle.fr_strides.specs.Strides.{IsNumbers};
 ghost use Rattle.fr_record_log.specs.Limits.{IsSoundPush};
 ghost use Rattle.fr_record_log.specs.LogFile.{IsSettledLog};
-ghost use Rattle.fr_record_log.specs.Spelled.{spelled_tag, spelled_stop, spelled_log, spelled_pushes, spelled_waiting, waited_out, waited, put_out, left_waiting, is_bare, tagged, body_of};
+ghost use Rattle.fr_record_log.specs.Spelled.{spelled_tag, spelled_stop, spelled_log, spelled_pushes, spelled_waiting, waited_out, waited, put_out, left_waiting, is_bare, tagged, body_of, IsPoppedThrough};
 
 use crate::limits::push_within_limits;
 use crate::reading::{tag_of, version_of};
@@ -14,14 +16,14 @@ use crate::spelling::{bare, head, lock, popped, pushed, put_records};
 use fr_base::{Epoch, Memory, Version};
 use fr_log::{Log, PoppedTag, Push, PushNumbers, Seed};
 use fr_state::CoordState;
-use fr_tags::Body;
+use fr_tags::{Body, is_held};
 use std::alloc::Global;
 
 /// The records of a log's whole state: what is left of its seed and of its pushes, how far its tags are popped, and its
 /// lock. A file of these alone opens to the same log as one of all the records by which it came there
 /// (`laws::spelled_law`), so they can take their place. Pushes without bodies have one record for many. It costs what the
-/// records take, 24 bytes of memory for each push, and for each a look-up in each of 32 tags, since a log holds batches by
-/// tag.
+/// records take, and 24 bytes of memory for each push. For each above the version through which all tags are popped it
+/// costs a look-up in each of 32 tags, since a log holds batches by tag.
 pub fn spelled(alloc: Global, log: &Log) -> Result<Vec<Vec<u8>>, Memory>
     requires { IsSettledLog log.now }
     ensures records { IfOk result (λ group. records_of group.items ≡ spelled_log log.now) }
@@ -68,9 +70,10 @@ fn put_pushes(
     ensures records { OnOk result (records_of group.new.items ≡ records_of group.old.items ++ spelled_pushes [] log.now.pushes) }
     ensures short { OnOk result (All (λ v. length v.items < 2 ^ 32) group.new.items) }
 {
+    let floor = popped_through(log);
     let mut waiting = Vec::new(alloc);
     for index in 0..numbers.len() {
-        let held = push_at(alloc, log, index, numbers[index])?;
+        let held = push_at(alloc, log, index, numbers[index], floor)?;
         push_within_limits(&held);
         put_push(group, alloc, &mut waiting, &held, numbers[index])?;
     }
@@ -162,8 +165,15 @@ fn put_waiting(
 }
 
 /// The push of a log at an index, of which the numbers are at hand.
-fn push_at(alloc: Global, log: &Log, index: usize, numbers: PushNumbers) -> Result<Push, Memory>
+fn push_at(
+    alloc: Global,
+    log: &Log,
+    index: usize,
+    numbers: PushNumbers,
+    floor: Version,
+) -> Result<Push, Memory>
     requires log { IsSettledLog log.now }
+    requires floor { IsPoppedThrough log.now floor }
     requires held { index < length log.now.pushes }
     requires numbers { (d : PushContent) → numbers ≡ pushed_numbers (slice_index_or log.now.pushes index d) }
     ensures { IfOk result (λ push. (d : PushContent) → push ≡ slice_index_or log.now.pushes index d) }
@@ -172,7 +182,7 @@ fn push_at(alloc: Global, log: &Log, index: usize, numbers: PushNumbers) -> Resu
     if index == 0 {
         first_push(alloc, log, numbers)
     } else {
-        later_push(alloc, log, index, numbers)
+        later_push(alloc, log, index, numbers, floor)
     }
 }
 
@@ -191,8 +201,15 @@ fn first_push(alloc: Global, log: &Log, numbers: PushNumbers) -> Result<Push, Me
 }
 
 /// A push of a log behind its mark, of which the numbers are at hand.
-fn later_push(alloc: Global, log: &Log, index: usize, numbers: PushNumbers) -> Result<Push, Memory>
+fn later_push(
+    alloc: Global,
+    log: &Log,
+    index: usize,
+    numbers: PushNumbers,
+    floor: Version,
+) -> Result<Push, Memory>
     requires log { IsSettledLog log.now }
+    requires floor { IsPoppedThrough log.now floor }
     requires held { index < length log.now.pushes }
     requires later { 0 < index }
     requires numbers { (d : PushContent) → numbers ≡ pushed_numbers (slice_index_or log.now.pushes index d) }
@@ -200,7 +217,7 @@ fn later_push(alloc: Global, log: &Log, index: usize, numbers: PushNumbers) -> R
 {
     let epoch = log.id().epoch;
     let version = version_of(numbers.version);
-    let bodies = bodies_at(alloc, log, version)?;
+    let bodies = bodies_left(alloc, log, version, floor)?;
     Ok(push_of(epoch, numbers, bodies))
 }
 
@@ -257,6 +274,50 @@ pub(crate) fn push_of(epoch: Epoch, numbers: PushNumbers, bodies: Vec<Body>) -> 
         Some(push) => push,
         None => unreachable!(),
     }
+}
+
+/// A version through which each tag of a log is popped.
+fn popped_through(log: &Log) -> Version
+    ensures { IsPoppedThrough log.now result }
+{
+    let mut floor = log.known();
+    for number in 0..32u8 {
+        floor = lower(log, number, floor);
+    }
+    floor
+}
+
+/// The lower one of a version and that through which a tag is popped, if the log has the tag.
+fn lower(log: &Log, number: u8, floor: Version) -> Version
+    requires { number < 32 }
+    ensures below { result ≤ floor }
+    ensures here { holds log.now number ≡ true → result ≤ popped_at log.now.popped number }
+{
+    let tag = tag_of(number);
+    if !is_held(tag, log.m(), log.k(), log.id().index) {
+        return floor;
+    }
+    // No Pop through 0 comes further, so this is how far the tag is popped.
+    let popped = log.popped_to(tag, Version::ZERO);
+    if popped < floor { popped } else { floor }
+}
+
+/// The bodies that a log has left at a version, by rising tags: none up to a version through which each tag is popped. So
+/// pushes without bodies, of which there may be millions, cost no look-up.
+fn bodies_left(
+    alloc: Global,
+    log: &Log,
+    version: Version,
+    floor: Version,
+) -> Result<Vec<Body>, Memory>
+    requires log { IsSettledLog log.now }
+    requires floor { IsPoppedThrough log.now floor }
+    ensures { IfOk result (λ bodies. bodies.items ≡ tagged 32 version log.now.pushes) }
+{
+    if version <= floor {
+        return Ok(Vec::new(alloc));
+    }
+    bodies_at(alloc, log, version)
 }
 
 /// The bodies that a log has left at a version, by rising tags.
