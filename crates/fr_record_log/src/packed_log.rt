@@ -227,10 +227,12 @@ impl Recorded for PackedLog {
     fn read(&mut self, alloc: Global, change: &[u8]) -> Result<(), RecordReadFault> {
         let (kind, rest) = byte_at(change)?;
         // Only here, since a file of format 1 with such a record is `Broken` (invariant 8).
-        if kind != BARE {
-            return self.file.read(alloc, change);
+        if kind == BARE {
+            let numbers = many_of(alloc, rest)?;
+            take_bare(&mut self.file.log, alloc, &numbers)?;
+            return Ok(());
         }
-        let numbers = many_of(alloc, rest)?;
-        take_bare(&mut self.file.log, alloc, &numbers)
+        self.file.read(alloc, change)?;
+        Ok(())
     }
 }

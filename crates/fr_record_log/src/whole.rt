@@ -170,7 +170,7 @@ fn push_at(
     log: &Log,
     index: usize,
     numbers: PushNumbers,
-    floor: Version,
+    floor: u64,
 ) -> Result<Push, Memory>
     requires log { IsSettledLog log.now }
     requires floor { IsPoppedThrough log.now floor }
@@ -206,7 +206,7 @@ fn later_push(
     log: &Log,
     index: usize,
     numbers: PushNumbers,
-    floor: Version,
+    floor: u64,
 ) -> Result<Push, Memory>
     requires log { IsSettledLog log.now }
     requires floor { IsPoppedThrough log.now floor }
@@ -277,10 +277,10 @@ pub(crate) fn push_of(epoch: Epoch, numbers: PushNumbers, bodies: Vec<Body>) -> 
 }
 
 /// A version through which each tag of a log is popped.
-fn popped_through(log: &Log) -> Version
+fn popped_through(log: &Log) -> u64
     ensures { IsPoppedThrough log.now result }
 {
-    let mut floor = log.known();
+    let mut floor = log.known().get();
     for number in 0..32u8 {
         floor = lower(log, number, floor);
     }
@@ -288,7 +288,7 @@ fn popped_through(log: &Log) -> Version
 }
 
 /// The lower one of a version and that through which a tag is popped, if the log has the tag.
-fn lower(log: &Log, number: u8, floor: Version) -> Version
+fn lower(log: &Log, number: u8, floor: u64) -> u64
     requires { number < 32 }
     ensures below { result ≤ floor }
     ensures here { holds log.now number ≡ true → result ≤ popped_at log.now.popped number }
@@ -298,23 +298,19 @@ fn lower(log: &Log, number: u8, floor: Version) -> Version
         return floor;
     }
     // No Pop through 0 comes further, so this is how far the tag is popped.
-    let popped = log.popped_to(tag, Version::ZERO);
+    let popped = log.popped_to(tag, Version::ZERO).get();
     if popped < floor { popped } else { floor }
 }
 
 /// The bodies that a log has left at a version, by rising tags: none up to a version through which each tag is popped. So
 /// pushes without bodies, of which there may be millions, cost no look-up.
-fn bodies_left(
-    alloc: Global,
-    log: &Log,
-    version: Version,
-    floor: Version,
-) -> Result<Vec<Body>, Memory>
+fn bodies_left(alloc: Global, log: &Log, version: Version, floor: u64) -> Result<Vec<Body>, Memory>
     requires log { IsSettledLog log.now }
     requires floor { IsPoppedThrough log.now floor }
     ensures { IfOk result (λ bodies. bodies.items ≡ tagged 32 version log.now.pushes) }
 {
-    if version <= floor {
+    let at = version.get();
+    if at <= floor {
         return Ok(Vec::new(alloc));
     }
     bodies_at(alloc, log, version)
