@@ -106,7 +106,7 @@ next_put before put waiting left ps p d i total lt is e waits so_far =
     let on : i + 1 ≡ suc i = omega arith in
     let here : drop i ps ≡ p ∷ drop (i + 1) ps = drop-cons ps i d lt ∙ ap (λ k. get_or ps i d ∷ drop k ps) (sym on) ∙ ap (λ x. x ∷ drop (i + 1) ps) (sym (is d)) in
     let all : before ++ spelled_pushes waiting (drop i ps) ≡ before ++ (put_out waiting p ++ spelled_pushes (left_waiting waiting p) (drop (i + 1) ps)) = ap (λ xs. before ++ spelled_pushes waiting xs) here in
-    rw (e, waits) (append_assoc before (put_out waiting p) (spelled_pushes (left_waiting waiting p) (drop (i + 1) ps))) ∙ sym all ∙ so_far
+    rw (e, waits) (append_assoc before (put_out waiting p) (spelled_pushes (left_waiting waiting p) (drop (i + 1) ps)) ∙ sym all ∙ so_far)
 
 pub last_put : (before put : List (List ℕ)) (waiting : List PushNumbers) (ps : List PushContent) (i : ℕ) (total : List (List ℕ)) → length ps ≤ i → put ≡ before ++ spelled_waiting waiting → before ++ spelled_pushes waiting (drop i ps) ≡ total → put ≡ total
 unfolding spelled_pushes

@@ -39,9 +39,6 @@ ends_so list total prev step lag count i le so_far =
     let here : evenly prev step lag (count - i) ≡ [] = ap (evenly prev step lag) none in
     sym (append-nil list) ∙ ap (λ ns. list ++ ns) (sym here) ∙ so_far
 
-pub begins_so : (list : List PushNumbers) (prev step lag count : ℕ) → list ++ evenly prev step lag (count - 0) ≡ list ++ evenly prev step lag count
-begins_so list prev step lag count = let e : count - 0 ≡ count = omega arith in ap (λ k. list ++ evenly prev step lag k) e
-
 -- of what is still to be put one push less
 pub step_less : (count i step : ℕ) → i < count → (count - i) * step ≡ step + (count - (i + 1)) * step
 step_less count i step lt =

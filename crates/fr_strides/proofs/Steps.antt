@@ -1,12 +1,12 @@
 -- Single steps of the loops.
 use Rattle.std.proofs.Common.{◌≡◌, ℕ, suc, get_or, drop, drop-cons, ◌+◌, ◌-◌, ◌*◌, ◌<◌, ◌≤◌, Bool, true, false, List, [], ◌∷◌, ◌++◌, length, Option, Some, None, refl, sym, ap, ◌∙◌, arith, append_assoc, cond}
-use Rattle.std.specs.Prelude.{◌==◌, ◌&&◌, if◌then◌else◌}
-use Rattle.std.proofs.lemmas.Bool.{and_parts, ne_eqb}
+use Rattle.std.specs.Prelude.{◌==◌, if◌then◌else◌}
+use Rattle.std.proofs.lemmas.Bool.{ne_eqb}
 use Rattle.std.proofs.lemmas.List.{append-nil, drop_all}
 use Rattle.fr_log.specs.declared.pushes.header.PushNumbers.{PushNumbers}
 use Rattle.fr_strides.specs.declared.stride.Stride.{Stride}
 use Rattle.fr_strides.specs.Bytes.{◌>>=◌, byte_at, is_end}
-use Rattle.fr_strides.specs.Strides.{alone, goes_on, longer, strides_from, strides_of, evenly, end_of, numbers_in, is_stride, is_apart, are_strides}
+use Rattle.fr_strides.specs.Strides.{alone, goes_on, longer, strides_from, strides_of}
 use Rattle.fr_strides.specs.Many.{stride_at, strides_at, strides_in}
 
 -- ---- strides that are made of pushes
@@ -100,43 +100,7 @@ module _ (bytes : List ℕ) (count : ℕ) (front : List ℕ) (opened : byte_at b
   pub more_follows : count ≤ i → is_end rest ≡ false → strides_in bytes ≡ None
   more_follows le end = whole ∙ ap ending (is_done ss count i rest (strides_at count front) le so_far) ∙ rw end refl
 
--- ---- strides that are tested, and that are taken apart
-
-pub tested_so : (prev : ℕ) (s : Stride) (ss : List Stride) → is_stride prev s ≡ true → is_apart s ss ≡ true → are_strides prev (s ∷ ss) ≡ are_strides (end_of prev s) ss
-unfolding are_strides
-tested_so prev s ss a b = rw (a, b) refl
-
-pub fails_first : (prev : ℕ) (s : Stride) (ss : List Stride) → is_stride prev s ≡ false → are_strides prev (s ∷ ss) ≡ false
-unfolding are_strides
-fails_first prev s ss a = rw a refl
-
-pub fails_apart : (prev : ℕ) (s : Stride) (ss : List Stride) → is_stride prev s ≡ true → is_apart s ss ≡ false → are_strides prev (s ∷ ss) ≡ false
-unfolding are_strides
-fails_apart prev s ss a b = rw (a, b) refl
-
-pub tested_all : (prev : ℕ) → are_strides prev [] ≡ true
-unfolding are_strides
-tested_all prev = refl
-
--- the first is a stride, and the others behind it are
-pub record FirstIs (prev : ℕ) (s : Stride) (ss : List Stride) : Type 0 where
-  pub stride : is_stride prev s ≡ true
-  pub others : are_strides (end_of prev s) ss ≡ true
-
-pub first_is : (prev : ℕ) (s : Stride) (ss : List Stride) → are_strides prev (s ∷ ss) ≡ true → FirstIs prev s ss
-unfolding are_strides
-first_is prev s ss h =
-    let a = and_parts (is_stride prev s) _ h in
-    let b = and_parts (is_apart s ss) (are_strides (end_of prev s) ss) a.1 in
-    record { stride = a.0; others = b.1 }
-
-pub put_so : (list put total : List PushNumbers) (prev : ℕ) (s : Stride) (ss : List Stride) → put ≡ list ++ evenly prev s.step s.lag (s.more + 1) → list ++ numbers_in prev (s ∷ ss) ≡ total → put ++ numbers_in (end_of prev s) ss ≡ total
-unfolding numbers_in
-put_so list put total prev s ss e so_far = rw e (append_assoc list (evenly prev s.step s.lag (s.more + 1)) (numbers_in (end_of prev s) ss)) ∙ so_far
-
-pub all_put : (list total : List PushNumbers) (prev : ℕ) → list ++ numbers_in prev [] ≡ total → list ≡ total
-unfolding numbers_in
-all_put list total prev so_far = sym (append-nil list) ∙ so_far
+-- ---- what is still to be put
 
 pub ends_less : (at step x y e : ℕ) → y ≡ step + x → at + y ≡ e → at + step + x ≡ e
 ends_less at step x y e h k = omega (arith, h, k)
