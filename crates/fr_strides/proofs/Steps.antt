@@ -1,7 +1,7 @@
 -- Single steps of the loops.
 use Rattle.std.proofs.Common.{◌≡◌, ℕ, suc, get_or, drop, drop-cons, ◌+◌, ◌-◌, ◌*◌, ◌<◌, ◌≤◌, Bool, true, false, List, [], ◌∷◌, ◌++◌, length, Option, Some, None, refl, sym, ap, ◌∙◌, arith, append_assoc, cond}
 use Rattle.std.specs.Prelude.{◌==◌, if◌then◌else◌}
-use Rattle.std.proofs.lemmas.Bool.{ne_eqb}
+use Rattle.std.proofs.lemmas.Bool.{eqb-true, ne_eqb}
 use Rattle.std.proofs.lemmas.List.{append-nil, drop_all}
 use Rattle.fr_log.specs.declared.pushes.header.PushNumbers.{PushNumbers}
 use Rattle.fr_strides.specs.declared.stride.Stride.{Stride}
@@ -22,9 +22,14 @@ off_take list put s t n ns off e is =
     rw (e, is) (append_assoc list (s ∷ []) (strides_from (alone n) ns) ∙ ap (λ b. list ++ cond b (strides_from (longer s) ns) (s ∷ strides_from (alone n) ns)) (sym off))
 
 -- no push yet, the first one, the next one, and the last
-pub none_so : (list : List Stride) → list ≡ [] → list ≡ strides_of []
+pub none_so : (list : List Stride) (ns : List PushNumbers) (b : Bool) → list ≡ [] → b ≡ (length ns == 0) → b ≡ true → list ≡ strides_of ns
 unfolding strides_of
-none_so list e = e
+none_so list [] b e test is = e
+none_so list (n ∷ ns) b e test is = absurd (let z = eqb-true (length (n ∷ ns)) 0 (sym test ∙ is) in omega (arith, z))
+
+pub some_items : (ns : List PushNumbers) (b : Bool) → b ≡ (length ns == 0) → b ≡ false → 0 < length ns
+some_items [] b test is = absurd (let k : (length [] == 0) ≡ false = sym test ∙ is in cc k)
+some_items (n ∷ ns) b test is = omega arith
 
 pub first_so : (list : List Stride) (s : Stride) (ns : List PushNumbers) (d : PushNumbers) → list ≡ [] → 0 < length ns → s ≡ alone (get_or ns 0 d) → list ++ strides_from s (drop 1 ns) ≡ strides_of ns
 unfolding strides_of
