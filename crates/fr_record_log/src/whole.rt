@@ -281,8 +281,8 @@ fn popped_through(log: &Log) -> u64
     ensures { IsPoppedThrough log.now result }
 {
     let mut floor = log.known().get();
-    for number in 0..32u8 {
-        floor = lower(log, number, floor);
+    for tag in 0..32u8 {
+        floor = lower(log, tag, floor);
     }
     floor
 }

@@ -4,5 +4,5 @@ use Rattle.fr_log.specs.LogState.{holds}
 use Rattle.fr_record_log.proofs.whole.popped_through.Given as goal
 
 -- the tags so far are popped through it
-abbrev pub invariant-loop-number : goal.invariant-loop-number
-invariant-loop-number l = (tag : ℕ) → tag < l.number → holds l.log tag ≡ true → l.floor ≤ popped_at l.log.popped tag
+abbrev pub invariant-loop-tag : goal.invariant-loop-tag
+invariant-loop-tag l = (t : ℕ) → t < l.tag → holds l.log t ≡ true → l.floor ≤ popped_at l.log.popped t
