@@ -60,7 +60,7 @@ pub none_waits : (before : List (List ℕ)) (ns : List PushNumbers) → ns ≡ [
 none_waits before ns e = rw e (sym (append-nil before))
 
 pub some_wait : (group : List (Vec ℕ Global)) (v : Vec ℕ Global) (ns : List PushNumbers) (b : Bool) → b ≡ (length ns == 0) → b ≡ false → v.items ≡ spelled_bare ns → records_of (group ++ v ∷ []) ≡ records_of group ++ spelled_waiting ns
-some_wait group v [] b e is bytes = absurd (let k : (length [] == 0) ≡ false = sym e ∙ is in cc k)
+some_wait group v [] b e is bytes = absurd (let k : (length {A = PushNumbers} [] == 0) ≡ false = sym e ∙ is in cc k)
 some_wait group v (n ∷ ns) b e is bytes = map-append (λ (w : Vec ℕ Global). w.items) group (v ∷ []) ∙ ap (λ x. records_of group ++ x ∷ []) bytes
 
 -- what comes out of it, by the test of how many there are

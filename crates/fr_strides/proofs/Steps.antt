@@ -28,7 +28,7 @@ none_so list [] b e test is = e
 none_so list (n ∷ ns) b e test is = absurd (let z = eqb-true (length (n ∷ ns)) 0 (sym test ∙ is) in omega (arith, z))
 
 pub some_items : (ns : List PushNumbers) (b : Bool) → b ≡ (length ns == 0) → b ≡ false → 0 < length ns
-some_items [] b test is = absurd (let k : (length [] == 0) ≡ false = sym test ∙ is in cc k)
+some_items [] b test is = absurd (let k : (length {A = PushNumbers} [] == 0) ≡ false = sym test ∙ is in cc k)
 some_items (n ∷ ns) b test is = omega arith
 
 pub first_so : (list : List Stride) (s : Stride) (ns : List PushNumbers) (d : PushNumbers) → list ≡ [] → 0 < length ns → s ≡ alone (get_or ns 0 d) → list ++ strides_from s (drop 1 ns) ≡ strides_of ns
