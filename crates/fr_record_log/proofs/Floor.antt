@@ -25,7 +25,7 @@ fewer q (x ∷ xs) = go (q x) (fewer q xs)
     go true k = omega (arith, k)
     go false k = omega (arith, k)
 
-tail_of : List Body → List Body
+abbrev tail_of : List Body → List Body
 tail_of [] = []
 tail_of (b ∷ bs) = bs
 
@@ -56,11 +56,11 @@ of_batch f n (b ∷ bs) batch all e = go (b.tag == n) refl (λ k. of_batch f n b
 
 -- ---- pushes of which nothing more goes
 
-first_of : PushContent → List PushContent → PushContent
+abbrev first_of : PushContent → List PushContent → PushContent
 first_of d [] = d
 first_of d (p ∷ ps) = p
 
-others_of : List PushContent → List PushContent
+abbrev others_of : List PushContent → List PushContent
 others_of [] = []
 others_of (p ∷ ps) = ps
 

@@ -156,10 +156,11 @@ fn put_waiting(
     ensures waiting { OnOk result (waiting.new.items ≡ []) }
     ensures short { OnOk result (All (λ v. length v.items < 2 ^ 32) group.new.items) }
 {
-    if waiting.is_empty() {
+    let numbers = waiting.as_slice();
+    if numbers.is_empty() {
         return Ok(());
     }
-    group.push(bare(alloc, waiting.as_slice())?)?;
+    group.push(bare(alloc, numbers)?)?;
     waiting.clear();
     Ok(())
 }
