@@ -130,7 +130,22 @@ def records_by(dice):
         its = segments.log_records(ask, log)
         log.ask(ask)
         found += [its] if log.last() != before else []
-    return [[it] for it in cells], found
+    return [[it] for it in cells], packed(dice, found) if dice.random() < 0.6 else found
+
+
+def packed(dice, groups):
+    """The same records, with one of many for some pushes without bodies that stand together."""
+    found, waiting = [], []
+    for group in groups:
+        is_bare = group[0][0] == segments.PUSH and not group[0][25]
+        if waiting and (not is_bare or dice.random() < 0.2):
+            found, waiting = [*found, [segments.bare_record(waiting)]], []
+        if is_bare and dice.random() < 0.8:
+            ((ask,),) = [segments.asks_in(group, 513)]
+            waiting.append(ask["log"]["push"])
+        else:
+            found, waiting = [*found, *([segments.bare_record(waiting)] for _ in waiting[:1]), group], []
+    return found + [[segments.bare_record(waiting)] for _ in waiting[:1]]
 
 
 def batch_by(dice):
@@ -212,6 +227,22 @@ def spoilt():
     others |= {"a record of no kind": begun(seed, [b"\x09"]), "a record of no byte": begun(seed, [b""])}
     others |= {"a mark before a seed": begun(mark), "a record that is cut off": begun([seed[0][:-1]])}
     others |= {"a record with a byte more": begun([seed[0] + b"\0"])}
+    one = bytes([segments.BARE, 11, 1, 2, 1])  # (a push from 11 to 12 that knows 10)
+    others |= {"many pushes before a mark": begun(seed, [bytes([segments.BARE, 10, 1, 2, 1])])}
+    for title, record in {
+        "many pushes twice": one,
+        "many pushes behind a gap": bytes([segments.BARE, 13, 1, 2, 1]),
+        "many pushes with a byte more": bytes([segments.BARE, 12, 1, 2, 1, 0]),
+        "many pushes that are cut off": bytes([segments.BARE, 12, 1, 2]),
+        "no stride": bytes([segments.BARE, 12, 0]),
+        "a number in more bytes than it needs": bytes([segments.BARE, 0x40, 12, 1, 2, 1]),
+        "a stride that goes on as the one before": bytes([segments.BARE, 12, 2, 2, 1, 2, 1]),
+        "a stride of none more": bytes([segments.BARE, 12, 1, 3, 1, 0]),
+        "a step of none": bytes([segments.BARE, 12, 1, 0, 1]),
+        "a step too far": bytes([segments.BARE, 12, 1]) + segments.short(2 * 10**6 + 2) + b"\1",
+        "a lag above the version before": bytes([segments.BARE, 12, 1, 2, 13]),
+    }.items():
+        others[title] = begun(seed, mark, [one], [record])
     for title, its in others.items():
         yield title, (its, empty), THERE
     good, header = begun(seed), segments.header(1, LOG_OWNER)
@@ -356,7 +387,10 @@ def lets_go(checks, command):
         is_same(checks, state(files, LITTLE, "files"), wanted, "opened again it is, and not")
         pair = files.pair("files")
         is_same(checks, spelled(LOG, segments.records_of(pair, LOG_OWNER)), wanted, "its file has, and not")
-        _, number = segments.current(pair, LOG_OWNER)
+        at, number = segments.current(pair, LOG_OWNER)
+        _, *first = segments.groups_in(pair[at])[0]
+        again = segments.state_records(segments.log_of(first, 513, 0, 4, 2))
+        checks.check(again == first, "its state is spelled", [it.hex() for it in first], "and not", again)
         sizes = list(map(len, pair))
         checks.check(number > 5 and max(sizes) <= 65536, "it let go", number - 1, "times, of files of", sizes, "bytes")
         # a cell lets go too: it has one state, however often it is asked
@@ -373,6 +407,40 @@ def lets_go(checks, command):
         _, number = segments.current(pair, CELL_OWNER)
         is_so = number > 2 and spelled(CELL, segments.records_of(pair, CELL_OWNER)) == wanted
         checks.check(is_so, "a cell let go", number - 1, "times, and its file has another state")
+
+
+def many(checks, command, count=100_000):
+    """A log that took many pushes whose bodies are popped, one record each, lets go: it is the same log, in a file in
+    which such a push takes two bytes, by the table of docs/FORMATS.md."""
+    dice, log, version = random.Random(count), segments.Log(513, 0, 4, 2), 11
+    records = []
+    for ask in (lines.SEED, lines.push(10, 11, 9, mark=lines.STATE)):
+        records += segments.log_records(ask, log)
+        log.ask(ask)
+    for _ in range(count):
+        ask = lines.push(version, version + dice.randrange(1, 4), max(0, version - dice.randrange(40)))
+        records += segments.log_records(ask, log)
+        log.ask(ask)
+        version = log.durable
+    groups = [[segments.header(1, LOG_OWNER)], *(records[at : at + 1000] for at in range(0, len(records), 1000))]
+    whole = segments.file_of(groups)
+    kind = [*LOG, "--room", str(len(whole) + 4096)]
+    with tempfile.TemporaryDirectory() as room:
+        files = Files(checks, command, room)
+        put(files, "files", kind, (whole, segments.file_of([])))
+        wanted = told_by(log, asks())
+        is_same(checks, state(files, kind, "files"), wanted, "a log of", count, "pushes is opened as, and not")
+        (given,) = pushes(1, 100, first=version)
+        found = files.run(kind, "files", [given])
+        pair = files.pair("files")
+        at, number = segments.current(pair, LOG_OWNER)
+        size = len(segments.block(0, [segments.header(2, LOG_OWNER), *segments.state_records(log)]))
+        checks.check((number, found[1:]) == (2, (0, "")), "a push to it ended with", number, found[1:])
+        checks.check(count < size < 2.2 * count, "its state should take", size, "bytes")
+        checks.check(size < len(pair[at]) < size + 300, "it let go to", len(pair[at]), "bytes and not", size)
+        log.ask(given["ask"])
+        found = state(files, kind, "files")
+        is_same(checks, found, told_by(log, asks()), "a log of", count, "pushes that let go is, and not")
 
 
 # ---- the file of version 0.2

@@ -14,7 +14,8 @@ from log import Log
 
 CLOSED, OPEN = b"\0\0", b"\1\1"
 MAGIC = b"fdbrec\2"
-HEAD, SEEDED, PUSH, MARK, LOCK, POPPED = range(1, 7)
+HEAD, SEEDED, PUSH, MARK, LOCK, POPPED, BARE = range(1, 8)
+MOST = 255  # pushes in a record of many
 
 
 class Broken(Exception):
@@ -249,6 +250,9 @@ def asks_in(records, epoch):
             found.append({"seed": {"epoch": at(1), "first": at(12), "records": [], "seeded_to": at(20)}})
         elif kind == SEEDED:
             found[0]["seed"]["records"].append({"batch": batch_in(it[10:]), "tag": it[9], "version": at(1)})
+        elif kind == BARE:
+            bare = {"bodies": [], "epoch": epoch, "mark": None}
+            found += [{"push": numbers | bare} for numbers in bares_in(it)]
         elif kind in (PUSH, MARK):
             numbers = {"known": at(17), "prev": at(1), "version": at(9)}
             mark = states.read(it[25:].hex()) if kind == MARK else None
@@ -267,6 +271,84 @@ def bodies_in(record):
         found.append([record[at], batch_in(record[at + 5 : end])])
         at = end
     return found
+
+
+# ---- records of many pushes without bodies, which files that let go have
+
+
+def short(value):
+    """A number below 2^62 in as few bytes as hold it (RFC 9000, section 16)."""
+    bits, width = next((it, 1 << it) for it in range(4) if value < 1 << (8 << it) - 2)
+    return spelled(value | bits << (8 * width - 2), width)
+
+
+def short_at(data, at):
+    """The number that stands at a place, and where it ends."""
+    width = 1 << (data[at] >> 6) if at < len(data) else 1
+    if at + width > len(data):
+        raise Broken
+    value = number(data[at : at + width]) % (1 << 8 * width - 2)
+    if short(value) != data[at : at + width]:
+        raise Broken
+    return value, at + width
+
+
+def strides_of(pushes):
+    """Pushes that follow one another evenly, as a step, a lag and how many more there are than one."""
+    found = []
+    for it in pushes:
+        same = [it["version"] - it["prev"], it["prev"] - it["known"]]
+        if found and found[-1][:2] == same:
+            found[-1][2] += 1
+        else:
+            found.append([*same, 0])
+    return found
+
+
+def bare_record(pushes):
+    strides = strides_of(pushes)
+    its = b"".join(short(2 * step + (more > 0)) + short(lag) + bytes([more][: more > 0]) for step, lag, more in strides)
+    return bytes([BARE]) + short(pushes[0]["prev"]) + bytes([len(strides)]) + its
+
+
+def bares_in(record):
+    """The numbers of the pushes of a record of many, of which there is one spelling."""
+    version, at = short_at(record, 1)
+    if at == len(record):
+        raise Broken
+    count, at, found = record[at], at + 1, []
+    for _ in range(count):
+        head, at = short_at(record, at)
+        lag, at = short_at(record, at)
+        more = record[at] if head % 2 and at < len(record) else 0
+        at += head % 2
+        for _ in range(more + 1):
+            found.append({"known": version - lag, "prev": version, "version": version + head // 2})
+            version += head // 2
+    is_push = [0 <= it["known"] and 1 <= it["version"] - it["prev"] <= 10**6 for it in found]
+    if not found or not all(is_push) or version >= 1 << 62 or bare_record(found) != record:
+        raise Broken
+    return found
+
+
+def state_records(log):
+    """The records of a log's whole state."""
+    if log.seed is None:
+        return []
+    found = log_records({"log": {"seed": log.left(log.seed)}}, log)
+    waiting = []
+    for it in log.pushes.values():
+        left = it | {"bodies": log.spoken(it)[2]}
+        is_bare = it["mark"] is None and not left["bodies"]
+        if waiting and not (is_bare and len(waiting) < MOST):
+            found, waiting = [*found, bare_record(waiting)], []
+        if is_bare:
+            waiting.append(it)
+        else:
+            found += log_records({"log": {"push": left}}, log)
+    found += [bare_record(waiting)] if waiting else []
+    found += [bytes([POPPED, tag]) + spelled(log.popped[tag], 8) for tag in sorted(log.popped)]
+    return found + [bytes([LOCK])] * log.stopped
 
 
 def log_of(records, epoch, index, m, k):

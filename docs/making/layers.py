@@ -21,7 +21,7 @@ FAMILIES = (
     ("Nodes as processes", "a turn of one node, and the lines by which it is served", r"fr_node.*"),
     ("Worlds", "all nodes in one exact run, an event at a time", r"fr_world.*"),
     ("Runs", "lists of turns of all nodes, and the laws of every run: the main theorem", r"fr_run.*"),
-    ("Nodes over disks", "disks that crash, record files, and nodes over them", r"fr_(record.*|segment|compact|host)"),
+    ("Nodes over disks", "disks that crash, record files, and nodes over them", r"fr_(record.*|segment|strides|compact|host)"),
     ("Store in SQL", "the same store in tables of a database, and of files", r"fr_sql_.*"),
     (
         "Nodes",

@@ -9,7 +9,8 @@ ghost use Rattle.fr_compact.specs.Leading.{LeadsTo};
 ghost use Rattle.fr_compact.specs.LogSpare.{spare_log};
 ghost use Rattle.fr_compact.specs.Room.{HasNoRoom, spare_all};
 ghost use Rattle.fr_record_log.specs.Law.{written_all};
-ghost use Rattle.fr_record_log.specs.LogFile.{fresh_of, replay_log};
+ghost use Rattle.fr_record_log.specs.LogFile.{fresh_of};
+ghost use Rattle.fr_record_log.specs.Packed.{replay_packed};
 ghost use Rattle.fr_record_log.specs.Spelled.{spelled_log};
 ghost use Rattle.fr_record_node.specs.Node.{is_trouble};
 
@@ -232,9 +233,9 @@ impl<F: GroupFile> Groups<CompactLog<F>> for Together {
         ensures never_failed { result ≢ Err NodeFault.Failed }
         ensures trouble { IfErr result (λ fault. IsTrue (is_trouble fault)) }
         ensures any_moment { (node.new ≡ node.old)
-            ⊎ F.Throughout (LeadsTo replay_log (fresh_of node.old.machine) (λ x. (x ≡ node.old.machine)
+            ⊎ F.Throughout (LeadsTo replay_packed (fresh_of node.old.machine) (λ x. (x ≡ node.old.machine)
             ⊎ (x ≡ after_all after_ask node.old.machine asks.items))) node.old.file node.new.file }
-        ensures kept { IfOk result (λ served. IfSome served (λ tells. F.Throughout (LeadsTo replay_log (fresh_of node.new.machine) (λ x. x
+        ensures kept { IfOk result (λ served. IfSome served (λ tells. F.Throughout (LeadsTo replay_packed (fresh_of node.new.machine) (λ x. x
             ≡ node.new.machine)) node.new.file node.new.file)) }
     {
         match node.serve_all(alloc, asks) {

@@ -5,15 +5,15 @@ use crate::compact::Compact;
 use fr_base::Memory;
 use fr_log::LogAsk;
 use fr_record_log::laws::spelled_law;
-use fr_record_log::{FileLog, spelled};
+use fr_record_log::{PackedLog, spelled};
 use std::alloc::Global;
 
 /// The bytes that the records of a push leave free: some 140 pops take as many.
 const SPARE: usize = 4096;
 
-/// The records of its whole state: no longer than those by which it came there, as each of them stands for one of
-/// these.
-impl Compact for FileLog {
+/// The records of its whole state: no longer than those by which it came there, as each of them stands for one of these
+/// or for many.
+impl Compact for PackedLog {
     ghost use Rattle.fr_record_log.specs.Spelled.{spelled_log};
     ghost use Rattle.fr_compact.specs.LogSpare.{spare_log};
 
@@ -25,8 +25,8 @@ impl Compact for FileLog {
         spelled(alloc, self.log())
     }
 
-    /// A push makes the log longer, and waits for pops. A log that pushes filled could not be popped, so it would never
-    /// let go, nor locked, so its generation could not be ended. So a push leaves room for both.
+    /// A push makes the log longer, and waits for pops. So it leaves room for these, and for the lock by which a recovery
+    /// ends the epoch.
     fn spare(ask: &LogAsk) -> usize {
         match ask {
             LogAsk::Push(_) => SPARE,

@@ -6,7 +6,8 @@ ghost use Rattle.fr_log.specs.Step.{answer_of, after_ask};
 ghost use Rattle.fr_record_node.specs.Several.{told_all};
 ghost use Rattle.fr_record_node.specs.Node.{is_trouble};
 ghost use Rattle.fr_record_node.specs.Replay.{replayed};
-ghost use Rattle.fr_record_log.specs.LogFile.{fresh_of, replay_log};
+ghost use Rattle.fr_record_log.specs.LogFile.{fresh_of};
+ghost use Rattle.fr_record_log.specs.Packed.{replay_packed};
 ghost use Rattle.fr_record_log.specs.Law.{after_all, written_all};
 ghost use Rattle.fr_record_log.specs.Spelled.{spelled_log};
 ghost use Rattle.fr_record_log.specs.Spelling.{written_log};
@@ -17,7 +18,7 @@ ghost use Rattle.fr_compact.specs.Room.{HasNoRoom, HasSpare, spare_all};
 use crate::compact_node::CompactNode;
 use fr_base::{LogId, Machine, Node, NodeFault, Reopened};
 use fr_log::{Log, LogAsk, LogTell};
-use fr_record_log::FileLog;
+use fr_record_log::PackedLog;
 use fr_segment::GroupFile;
 use fr_tags::MAX_LOGS;
 use std::alloc::Global;
@@ -28,11 +29,12 @@ use std::marker::Model;
 /// length and the log's whenever the file is full, reading the log back the length of its file. Contracts see the file
 /// and the log.
 ///
-/// A log keeps the numbers of each push for good, which take 30 bytes of the file. Once these take half of it, the file
-/// refuses pushes until the epoch ends.
+/// A log keeps the numbers of each push for good. Of pushes whose bodies are popped these take two to four bytes of the
+/// file as a rule, and next to nothing where they go evenly (`fr_strides`). Once they take half of it, the file refuses
+/// pushes until the epoch ends.
 #[derive(Drop)]
 pub struct CompactLog<F: GroupFile> {
-    node: CompactNode<FileLog, F>,
+    node: CompactNode<PackedLog, F>,
 }
 
 impl<F: GroupFile> Model for CompactLog<F> {
@@ -57,9 +59,9 @@ impl<F: GroupFile> CompactLog<F> {
         ensures log { result.machine ≡ fresh_log id.epoch id.index m k }
         ensures file { result.file ≡ file }
         ensures free { result.owed ≡ None }
-        ensures kept { F.Throughout (LeadsTo replay_log (fresh_of result.machine) (λ x. x ≡ result.machine)) result.file result.file }
+        ensures kept { F.Throughout (LeadsTo replay_packed (fresh_of result.machine) (λ x. x ≡ result.machine)) result.file result.file }
     {
-        let log = FileLog::fresh(alloc, id, m, k);
+        let log = PackedLog::fresh(alloc, id, m, k);
         CompactLog {
             node: CompactNode::begin(file, log),
         }
@@ -73,9 +75,9 @@ impl<F: GroupFile> CompactLog<F> {
         requires limit { m ≤ MAX_LOGS }
         requires place { id.index < m }
         requires works { F.is_failed file ≡ false }
-        ensures replays { IfOk result (λ node. replayed replay_log (Some (fresh_log id.epoch id.index m k)) (F.records file) ≡ Some node.machine) }
+        ensures replays { IfOk result (λ node. replayed replay_packed (Some (fresh_log id.epoch id.index m k)) (F.records file) ≡ Some node.machine) }
         ensures broken { (result ≡ Err NodeFault.Broken)
-            → replayed replay_log (Some (fresh_log id.epoch id.index m k)) (F.records file) ≡ None }
+            → replayed replay_packed (Some (fresh_log id.epoch id.index m k)) (F.records file) ≡ None }
         ensures records { IfOk result (λ node. F.records node.file ≡ F.records file) }
         ensures works { IfOk result (λ node. F.is_failed node.file ≡ false) }
         ensures free { IfOk result (λ node. node.owed ≡ None) }
@@ -85,13 +87,13 @@ impl<F: GroupFile> CompactLog<F> {
         ensures any_moment { IfOk result (λ node. F.Throughout (λ rs. rs ≡ F.records file) file node.file) }
         ensures gone { OnErr result ((last : F) × F.Throughout (λ rs. rs ≡ F.records file) file last
             × ((result ≡ Err NodeFault.Device) → F.failures last ≡ min (F.failures file + 1) (2 ^ 64 - 1))) }
-        ensures kept { IfOk result (λ node. F.Throughout (LeadsTo replay_log (fresh_of node.machine) (λ x. x
+        ensures kept { IfOk result (λ node. F.Throughout (LeadsTo replay_packed (fresh_of node.machine) (λ x. x
             ≡ node.machine)) node.file node.file) }
         ensures never_full { result ≢ Err NodeFault.Full }
         ensures never_failed { result ≢ Err NodeFault.Failed }
     {
         // The caller says which log it wants: the head of a seed names its log, so a file of another one is `Broken`.
-        let log = FileLog::fresh(alloc, id, m, k);
+        let log = PackedLog::fresh(alloc, id, m, k);
         match CompactNode::read(alloc, file, log) {
             Ok(node) => Ok(CompactLog { node }),
             Err(fault) => Err(fault),
@@ -122,9 +124,9 @@ impl<F: GroupFile> CompactLog<F> {
         ensures owes_still { result ≢ Err NodeFault.Device → self.new.owed ≡ self.old.owed }
         ensures trouble { IfErr result (λ fault. fault ≢ NodeFault.Failed → IsTrue (is_trouble fault)) }
         ensures any_moment { F.is_failed self.old.file ≡ false
-            → F.Throughout (LeadsTo replay_log (fresh_of self.old.machine) (λ x. (x ≡ self.old.machine)
+            → F.Throughout (LeadsTo replay_packed (fresh_of self.old.machine) (λ x. (x ≡ self.old.machine)
             ⊎ (x ≡ after_all self.old.machine asks.items))) self.old.file self.new.file }
-        ensures kept { OnOk result (F.Throughout (LeadsTo replay_log (fresh_of self.new.machine) (λ x. x
+        ensures kept { OnOk result (F.Throughout (LeadsTo replay_packed (fresh_of self.new.machine) (λ x. x
             ≡ self.new.machine)) self.new.file self.new.file) }
     {
         self.node.serve_all(alloc, asks)
@@ -141,7 +143,8 @@ impl<F: GroupFile> CompactLog<F> {
 impl<F: GroupFile> Node for CompactLog<F> {
     ghost use Rattle.std.specs.Prelude.{IsTrue};
     ghost use Rattle.fr_record_node.specs.Node.{is_trouble};
-    ghost use Rattle.fr_record_log.specs.LogFile.{fresh_of, replay_log};
+    ghost use Rattle.fr_record_log.specs.LogFile.{fresh_of};
+    ghost use Rattle.fr_record_log.specs.Packed.{replay_packed};
     ghost use Rattle.fr_record_log.specs.Spelled.{spelled_log};
     ghost use Rattle.fr_record_log.specs.Spelling.{written_log};
     ghost use Rattle.fr_compact.specs.Leading.{LeadsTo};
@@ -160,7 +163,7 @@ impl<F: GroupFile> Node for CompactLog<F> {
 
     ghost LacksRoom = { λ n ask. HasNoRoom F.room F.used F.next_room F.front n.file (spelled_log n.machine) (written_log n.machine ask) (spare_log ask) };
 
-    ghost Throughout = { λ P n later. F.Throughout (LeadsTo replay_log (fresh_of n.machine) P) n.file later.file };
+    ghost Throughout = { λ P n later. F.Throughout (LeadsTo replay_packed (fresh_of n.machine) P) n.file later.file };
 
     ghost CanMeet = { λ fault. IsTrue (is_trouble fault) };
 
@@ -182,9 +185,9 @@ impl<F: GroupFile> Node for CompactLog<F> {
         ensures owes_still { result ≢ Err NodeFault.Device → self.new.owed ≡ self.old.owed }
         ensures trouble { IfErr result (λ fault. fault ≢ NodeFault.Failed → IsTrue (is_trouble fault)) }
         ensures any_moment { F.is_failed self.old.file ≡ false
-            → F.Throughout (LeadsTo replay_log (fresh_of self.old.machine) (λ x. (x ≡ self.old.machine)
+            → F.Throughout (LeadsTo replay_packed (fresh_of self.old.machine) (λ x. (x ≡ self.old.machine)
             ⊎ (x ≡ after_ask self.old.machine ask))) self.old.file self.new.file }
-        ensures kept { OnOk result (F.Throughout (LeadsTo replay_log (fresh_of self.new.machine) (λ x. x
+        ensures kept { OnOk result (F.Throughout (LeadsTo replay_packed (fresh_of self.new.machine) (λ x. x
             ≡ self.new.machine)) self.new.file self.new.file) }
     {
         self.node.serve(alloc, ask)

@@ -7,6 +7,9 @@ pub mod Group
 pub mod Runs
 pub mod Pushing
 pub mod Popping
+pub mod Packing
+pub mod Bares
+pub mod Floor
 pub mod Leading
 pub mod Tagged
 pub mod Held

@@ -64,7 +64,7 @@ next_held l s front p own follows early unmarked =
       after = rw (granted, other) refl;
     }
 
-some_is_some : {A : Type 0} (o : Option A) → IsSome o → is_none o ≡ false
+pub some_is_some : {A : Type 0} (o : Option A) → IsSome o → is_none o ≡ false
 some_is_some None some = absurd (cc)
 some_is_some (Some x) some = refl
 

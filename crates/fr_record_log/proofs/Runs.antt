@@ -19,10 +19,13 @@ use Rattle.fr_log.specs.Seeding.{changes, is_empty, is_unpopped, is_further, may
 use Rattle.fr_record_node.specs.Replay.{replayed}
 use Rattle.fr_record_log.specs.declared.change.Change.{Change}
 use Rattle.fr_record_log.specs.declared.change.Change.TheVariants.{Asked, Seeded, LetGo}
-use Rattle.fr_record_log.specs.Reading.{◌>>=◌, change_at}
+use Rattle.fr_record_log.specs.Reading.{◌>>=◌, byte_at, change_at}
 use Rattle.fr_record_log.specs.LogFile.{fresh_of, taken, replay_log}
 use Rattle.fr_record_log.specs.LogFileLaws.{same_fresh}
-use Rattle.fr_record_log.specs.Law.{after_all, ReadIsRun}
+use Rattle.fr_record_log.specs.Law.{after_all, ReadIsRun, PackedReadIsRun}
+use Rattle.fr_log.specs.declared.pushes.header.PushNumbers.{PushNumbers}
+use Rattle.fr_strides.specs.Many.{many_of}
+use Rattle.fr_record_log.specs.Packed.{bare, taken_bare, replay_kind, replay_packed}
 use Rattle.fr_record_log.proofs.Group.{none_is, seed_granted, popped_after}
 
 -- the seed of a log is of its epoch and of its tags
@@ -233,4 +236,47 @@ by_all f (Some l) (r ∷ records) n h e = by_all f (replay_log l r) records n (n
 pub read_is_run : ReadIsRun
 read_is_run epoch index m k records l e =
     let made = by_all (fresh_log epoch index m k) (Some (fresh_log epoch index m k)) records l (record { asks = []; made = refl; fresh = refl; own = tt }) e in
+    (made.asks, made.made)
+
+-- ---- by the records of a file that lets go
+
+by_bare : (f l : LogState) (ns : List PushNumbers) (n : LogState) → taken_bare l ns ≡ Some n → IsMade f l → IsMade f n
+by_bare f l [] n e h = let same : l ≡ n = cc e in subst (IsMade f) same h
+by_bare f l (x ∷ ns) n e h = go (taken l (Asked (Push (bare l.epoch x)))) refl e (λ next. by_bare f next ns n)
+  where
+    go : (o : Option LogState) → taken l (Asked (Push (bare l.epoch x))) ≡ o → (o >>= λ next. taken_bare next ns) ≡ Some n → ((next : LogState) → taken_bare next ns ≡ Some n → IsMade f next → IsMade f n) → IsMade f n
+    go None k e rest = absurd (cc e)
+    go (Some next) k e rest = rest next e (by_change f l (Asked (Push (bare l.epoch x))) next k h)
+
+by_packed : (f l n : LogState) (bytes : List ℕ) → replay_packed l bytes ≡ Some n → IsMade f l → IsMade f n
+by_packed f l n bytes e h = go (byte_at bytes) e
+  where
+    many : (o : Option (List PushNumbers)) → (o >>= taken_bare l) ≡ Some n → IsMade f n
+    many None k = absurd (cc k)
+    many (Some ns) k = by_bare f l ns n k h
+
+    kind : (b : Bool) (rest : List ℕ) → cond b (many_of rest >>= taken_bare l) (replay_log l bytes) ≡ Some n → IsMade f n
+    kind true rest k = many (many_of rest) k
+    kind false rest k = by_bytes f l n bytes k h
+
+    go : (o : Option (ℕ × List ℕ)) → (o >>= λ first. replay_kind l bytes first.0 first.1) ≡ Some n → IsMade f n
+    go None k = absurd (cc k)
+    go (Some first) k = kind (first.0 == 7) first.1 k
+
+packed_stays : (records : List (List ℕ)) → replayed replay_packed None records ≡ None
+packed_stays [] = refl
+packed_stays (r ∷ records) = packed_stays records
+
+all_packed : (f : LogState) (o : Option LogState) (records : List (List ℕ)) (n : LogState) → IfSome o (IsMade f) → replayed replay_packed o records ≡ Some n → IsMade f n
+all_packed f None records n h e = absurd (let k = packed_stays records in cc (k, e))
+all_packed f (Some l) [] n h e = let same : l ≡ n = cc e in subst (IsMade f) same h
+all_packed f (Some l) (r ∷ records) n h e = all_packed f (replay_packed l r) records n (next (replay_packed l r) refl) e
+  where
+    next : (o : Option LogState) → replay_packed l r ≡ o → IfSome o (IsMade f)
+    next None k = tt
+    next (Some x) k = by_packed f l x r k h
+
+pub packed_read_is_run : PackedReadIsRun
+packed_read_is_run epoch index m k records l e =
+    let made = all_packed (fresh_log epoch index m k) (Some (fresh_log epoch index m k)) records l (record { asks = []; made = refl; fresh = refl; own = tt }) e in
     (made.asks, made.made)

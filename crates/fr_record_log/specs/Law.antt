@@ -8,6 +8,7 @@ use Rattle.fr_record_node.specs.Replay.{replayed}
 use Rattle.fr_record_log.specs.Limits.{IsSoundAsk}
 use Rattle.fr_record_log.specs.Spelling.{written_log}
 use Rattle.fr_record_log.specs.LogFile.{replay_log, IsSoundLog, IsFileAsk}
+use Rattle.fr_record_log.specs.Packed.{replay_packed}
 
 -- a log after some asks, each of which lets go what it covers
 abbrev pub after_all : LogState → List LogAsk → LogState
@@ -43,4 +44,19 @@ abbrev pub ReadIsRun : Type 0
 ReadIsRun =
     (epoch index m k : ℕ) (records : List (List ℕ)) (l : LogState)
     → replayed replay_log (Some (fresh_log epoch index m k)) records ≡ Some l
+    → (asks : List LogAsk) × (after_all (fresh_log epoch index m k) asks ≡ l)
+
+-- ---- files that let go
+
+-- the records of every list of asks lead a log where the asks do there too
+abbrev pub PackedRunIsRead : Type 0
+PackedRunIsRead =
+    (l : LogState) (asks : List LogAsk) → IsSoundLog l → All IsSoundAsk asks
+    → replayed replay_packed (Some l) (written_all l asks) ≡ Some (after_all l asks)
+
+-- and what such a file is read as, some asks make of a log that was never asked
+abbrev pub PackedReadIsRun : Type 0
+PackedReadIsRun =
+    (epoch index m k : ℕ) (records : List (List ℕ)) (l : LogState)
+    → replayed replay_packed (Some (fresh_log epoch index m k)) records ≡ Some l
     → (asks : List LogAsk) × (after_all (fresh_log epoch index m k) asks ≡ l)

@@ -3,5 +3,7 @@ pub mod Spelling
 pub mod Reading
 pub mod LogFile
 pub mod LogFileLaws
+pub mod Packed
+pub mod PackedLaws
 pub mod Law
 pub mod Spelled

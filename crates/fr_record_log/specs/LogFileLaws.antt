@@ -47,7 +47,7 @@ swept_same l = refl
 pub same_fresh : (l : LogState) (a : LogAsk) → fresh_of (after_ask l a) ≡ fresh_of l
 same_fresh l a = picked (Same l) (lets_go l a) (swept (next_of l a)) (next_of l a) (swept_same (next_of l a) ∙ next_same l a) (next_same l a)
 
-taken_same : (l : LogState) (c : Change) (n : LogState) → taken l c ≡ Some n → fresh_of n ≡ fresh_of l
+pub taken_same : (l : LogState) (c : Change) (n : LogState) → taken l c ≡ Some n → fresh_of n ≡ fresh_of l
 taken_same l (Asked a) n e = go (changes l a) e
   where
     go : (b : Bool) → (if b then Some (after_ask l a) else None) ≡ Some n → fresh_of n ≡ fresh_of l

@@ -21,6 +21,8 @@
 //!    holes that no other log could fill.
 //! 7. The head of a seed names the log: epoch, number, m and k (`own_at`). Otherwise a file put in the place of
 //!    another one would give a log the records of tags that it does not hold.
+//! 8. A record of many pushes stands for these pushes, each taken in turn, and only the records of a whole state have it
+//!    (`PackedLog`, `spelled`). `FileLog` refuses it: the files of format 1 have no such kind.
 #![tactic(auto)]
 
 mod change;
@@ -28,10 +30,12 @@ pub mod laws;
 mod limits;
 mod log_file;
 mod log_node;
+mod packed_log;
 mod reading;
 mod spelling;
 mod whole;
 
 pub use log_file::FileLog;
 pub use log_node::LogNode;
+pub use packed_log::PackedLog;
 pub use whole::spelled;

@@ -22,7 +22,7 @@ use std::marker::Model;
 /// node; a node that keeps its files otherwise begins with `FileLog::fresh`. Contracts see the log.
 #[derive(Drop)]
 pub struct FileLog {
-    log: Log,
+    pub(crate) log: Log,
 }
 
 impl Model for FileLog {
@@ -99,7 +99,7 @@ impl Machine for FileLog {
 }
 
 /// Takes an ask that changes the log.
-fn take_ask(log: &mut Log, alloc: Global, ask: LogAsk) -> Result<(), RecordReadFault>
+pub(crate) fn take_ask(log: &mut Log, alloc: Global, ask: LogAsk) -> Result<(), RecordReadFault>
     requires { IsSettledLog log.old }
     ensures ok { OnOk result (taken log.old (Change.Asked ask) ≡ Some log.new) }
     ensures broken { (result ≡ Err RecordReadFault.Broken) → taken log.old (Change.Asked ask) ≡ None }

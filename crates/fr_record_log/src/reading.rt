@@ -21,8 +21,8 @@ pub(crate) struct Numbers {
     known: u64,
 }
 
-/// A byte, and the rest.
-fn byte_at(bytes: &[u8]) -> Result<(u8, &[u8]), RecordReadFault>
+/// A byte, and what follows it.
+pub(crate) fn byte_at(bytes: &[u8]) -> Result<(u8, &[u8]), RecordReadFault>
     ensures { Finds (λ x. (x.0, x.1.now)) result (byte_at bytes.now) }
 {
     match bytes {
@@ -31,7 +31,7 @@ fn byte_at(bytes: &[u8]) -> Result<(u8, &[u8]), RecordReadFault>
     }
 }
 
-/// So many bytes, and the rest.
+/// So many bytes, and what follows them.
 fn bytes_at(len: usize, bytes: &[u8]) -> Result<(&[u8], &[u8]), RecordReadFault>
     ensures { Finds (λ x. (x.0.now, x.1.now)) result (bytes_at len bytes.now) }
 {
@@ -39,7 +39,7 @@ fn bytes_at(len: usize, bytes: &[u8]) -> Result<(&[u8], &[u8]), RecordReadFault>
     bytes.split_at_checked(len).ok_or(RecordReadFault::Broken)
 }
 
-/// A number of eight bytes, and the rest.
+/// A number of eight bytes, and what follows it.
 #[tactic(auto, unfolding(crate::specs::Reading::number_at))]
 fn number_at(bytes: &[u8]) -> Result<(u64, &[u8]), RecordReadFault>
     ensures { Finds (λ x. (x.0, x.1.now)) result (number_at bytes.now) }
@@ -50,7 +50,7 @@ fn number_at(bytes: &[u8]) -> Result<(u64, &[u8]), RecordReadFault>
     Ok((u64::from_be_bytes(*front), rest))
 }
 
-/// A length of four bytes, and the rest.
+/// A length of four bytes, and what follows it.
 #[tactic(auto, unfolding(crate::specs::Reading::length_at))]
 fn length_at(bytes: &[u8]) -> Result<(usize, &[u8]), RecordReadFault>
     ensures { Finds (λ x. (x.0, x.1.now)) result (length_at bytes.now) }
@@ -61,7 +61,7 @@ fn length_at(bytes: &[u8]) -> Result<(usize, &[u8]), RecordReadFault>
     Ok((u32::from_be_bytes(*front) as usize, rest))
 }
 
-/// The number of a version, and the rest.
+/// The number of a version, and what follows it.
 #[tactic(auto, unfolding(crate::specs::Reading::version_at))]
 fn version_at(bytes: &[u8]) -> Result<(u64, &[u8]), RecordReadFault>
     ensures found { Finds (λ x. (x.0, x.1.now)) result (version_at bytes.now) }
@@ -87,7 +87,7 @@ pub(crate) fn version_of(number: u64) -> Version
     }
 }
 
-/// The number of a tag, and the rest.
+/// The number of a tag, and what follows it.
 #[tactic(auto, unfolding(crate::specs::Reading::tag_at))]
 fn tag_at(bytes: &[u8]) -> Result<(u8, &[u8]), RecordReadFault>
     ensures found { Finds (λ x. (x.0, x.1.now)) result (tag_at bytes.now) }
@@ -148,7 +148,7 @@ fn state_of(alloc: Global, bytes: &[u8]) -> Result<CoordState, RecordReadFault>
     }
 }
 
-/// The number of a body's tag, the bytes of its batch, and the rest.
+/// The number of a body's tag, the bytes of its batch, and what follows it.
 #[tactic(auto, unfolding(crate::specs::Reading::text_at))]
 fn text_at(bytes: &[u8]) -> Result<(u8, &[u8], &[u8]), RecordReadFault>
     ensures found { Finds (λ x. (x.0, x.1.now, x.2.now)) result (text_at bytes.now) }
@@ -195,7 +195,7 @@ fn add(bodies: &mut Vec<Body>, body: Body) -> Result<(), RecordReadFault>
     }
 }
 
-/// The numbers of a push, and the rest.
+/// The numbers of a push, and what follows them.
 #[tactic(auto, unfolding(crate::specs::Reading::numbers_at))]
 fn numbers_at(bytes: &[u8]) -> Result<(Numbers, &[u8]), RecordReadFault>
     ensures found { Finds (λ x. (x.0, x.1.now)) result (numbers_at bytes.now) }
@@ -316,6 +316,7 @@ fn popped_of(bytes: &[u8]) -> Result<PoppedTag, RecordReadFault>
     Ok(PoppedTag { tag, version })
 }
 
+/// What a log does by a record.
 #[tactic(auto, unfolding(crate::specs::Reading::change_at))]
 pub(crate) fn change_at(alloc: Global, log: &Log, bytes: &[u8]) -> Result<Change, RecordReadFault>
     ensures { Finds (λ change. change) result (change_at log.now bytes.now) }

@@ -2,13 +2,16 @@
 ghost use Rattle.std.specs.Prelude.{◌≡◌, ◌<◌, ◌≤◌, ◌^◌, ◌+◌, ◌*◌, ◌++◌, ◌∷◌, [], length, map, All, IfOk, OnOk};
 ghost use Rattle.fr_mutation.specs.CodecSpelling.{spelled};
 ghost use Rattle.fr_record.specs.Group.{records_of};
+ghost use Rattle.fr_strides.specs.Strides.{IsNumbers};
+ghost use Rattle.fr_record_log.specs.Packed.{spelled_bare};
 ghost use Rattle.fr_record_log.specs.Limits.{IsSoundBody, IsSoundSeed, IsSoundPush, IsSoundAsk};
 ghost use Rattle.fr_record_log.specs.Spelling.{spelled_head, spelled_popped, spelled_seeded, spelled_body, spelled_numbers, spelled_bodies, spelled_push, spelled_ask};
 
 use fr_base::{Memory, Tag, Version};
-use fr_log::{Log, LogAsk, Push, Seed, SeedRecord};
+use fr_log::{Log, LogAsk, Push, PushNumbers, Seed, SeedRecord};
 use fr_mutation::{Batch, encode as encode_batch};
 use fr_state::encode as encode_state;
+use fr_strides::put_many;
 use fr_tags::Body;
 use std::alloc::Global;
 
@@ -24,6 +27,8 @@ pub(crate) const MARK: u8 = 4;
 pub(crate) const LOCK: u8 = 5;
 /// A tag, and the version through which it is now popped.
 pub(crate) const POPPED: u8 = 6;
+/// Many pushes without bodies: their numbers. Only files that let go have it.
+pub(crate) const BARE: u8 = 7;
 
 /// The records of an ask that changes a log.
 pub(crate) fn spelled_ask(alloc: Global, log: &Log, ask: &LogAsk) -> Result<Vec<Vec<u8>>, Memory>
@@ -131,6 +136,19 @@ pub(crate) fn pushed(alloc: Global, push: &Push) -> Result<Vec<u8>, Memory>
             put_bodies(&mut bytes, alloc, push.bodies())?;
         }
     }
+    Ok(bytes)
+}
+
+/// The record of pushes without bodies that follow one another, of 255 at most.
+pub(crate) fn bare(alloc: Global, numbers: &[PushNumbers]) -> Result<Vec<u8>, Memory>
+    requires few { length numbers.now ≤ 255 }
+    requires each { All IsNumbers numbers.now }
+    ensures bytes { IfOk result (λ bytes. bytes.items ≡ spelled_bare numbers.now) }
+    ensures short { IfOk result (λ bytes. length bytes.items < 2 ^ 32) }
+{
+    let mut bytes = Vec::new(alloc);
+    bytes.push(BARE)?;
+    put_many(&mut bytes, alloc, numbers)?;
     Ok(bytes)
 }
 
