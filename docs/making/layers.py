@@ -16,7 +16,7 @@ FAMILIES = (
     (
         "Library for C",
         "machines as one type, and behind handles: what C, Rust and Python call",
-        r"fr_(part|c)",
+        r"fr_(saved|part|c)",
     ),
     ("Nodes as processes", "a turn of one node, and the lines by which it is served", r"fr_node.*"),
     ("Worlds", "all nodes in one exact run, an event at a time", r"fr_world.*"),
