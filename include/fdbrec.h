@@ -97,6 +97,13 @@ uint32_t fdbrec_answer(fdbrec_part **of, uint8_t *out, size_t out_len, size_t *l
 uint32_t fdbrec_next(fdbrec_part **of, uint8_t *out, size_t out_len, size_t *len);
 uint32_t fdbrec_last(fdbrec_part **of, uint8_t *out, size_t out_len, size_t *len);
 
+/* The whole state of a cell or a log as bytes, and the machine that was saved as these bytes: the same one, but for the
+ * answer of its last turn. `fdbrec_save` changes nothing. Bytes that are no saved cell, or no saved log, are BAD_TEXT. What
+ * the handle held before is freed, if the machine is there. docs/FORMATS.md has the bytes. */
+uint32_t fdbrec_save(fdbrec_part **of, uint8_t *out, size_t out_len, size_t *len);
+uint32_t fdbrec_cell_restore(fdbrec_part **of, const uint8_t *bytes, size_t bytes_len);
+uint32_t fdbrec_log_restore(fdbrec_part **of, const uint8_t *bytes, size_t bytes_len);
+
 /* Cells, in bytes. `*number` is the ballot written, or the one promised if REFUSED. */
 uint32_t fdbrec_cell_read(fdbrec_part **of, uint64_t ballot, uint64_t *number, uint8_t *out, size_t out_len,
                           size_t *len);

@@ -29,7 +29,7 @@ import struct
 import threading
 from collections.abc import Callable, Iterator, Sequence
 from enum import IntEnum
-from typing import Any, NamedTuple
+from typing import Any, NamedTuple, TypeVar
 
 Json = Any
 """What `json` makes of a text."""
@@ -82,7 +82,7 @@ class OutOfLimits(Fault, ValueError):
 
 
 class BadText(Fault, ValueError):
-    """It is no line of that form, or these are no bytes of a batch."""
+    """It is no line of that form, or these are no bytes of a batch or of a saved machine."""
 
 
 class Untold(Fault, MemoryError):
@@ -175,6 +175,9 @@ _DECLARED: dict[str, tuple] = {
     "fdbrec_answer": (_U32, _PART, _ROOM, _SIZE, _SIZE_OUT),
     "fdbrec_next": (_U32, _PART, _ROOM, _SIZE, _SIZE_OUT),
     "fdbrec_last": (_U32, _PART, _ROOM, _SIZE, _SIZE_OUT),
+    "fdbrec_save": (_U32, _PART, _ROOM, _SIZE, _SIZE_OUT),
+    "fdbrec_cell_restore": (_U32, _PART, _BYTES, _SIZE),
+    "fdbrec_log_restore": (_U32, _PART, _BYTES, _SIZE),
     "fdbrec_cell_read": (_U32, _PART, _U64, _U64_OUT, _ROOM, _SIZE, _SIZE_OUT),
     "fdbrec_cell_answer": (_U32, _PART, _U64_OUT, _ROOM, _SIZE, _SIZE_OUT),
     "fdbrec_cell_write": (_U32, _PART, _U64, _BYTES, _SIZE, _U64_OUT),
@@ -431,6 +434,31 @@ class Asked(Node):
         return json.loads(self._turn("fdbrec_ask", line, len(line)))
 
 
+_Kept = TypeVar("_Kept", bound="Saved")
+
+
+class Saved(Asked):
+    """A machine whose whole state can be saved."""
+
+    _RESTORE = ""
+
+    def save(self) -> bytes:
+        """The machine's whole state, of which `restored` makes the machine again. This changes nothing, and costs what
+        the state takes."""
+        saved = self._read("fdbrec_save")
+        with self._lock:
+            self._room = ctypes.create_string_buffer(512)
+        return saved
+
+    @classmethod
+    def restored(cls: type[_Kept], saved: bytes) -> _Kept:
+        """The machine that was saved as these bytes, or `BadText` if they are none of its kind. It took no turn yet:
+        `answer` gives `None`."""
+        machine = cls.__new__(cls)
+        Machine.__init__(machine, cls._RESTORE, saved, len(saved))
+        return machine
+
+
 class Hears(Node):
     """A machine that asks, and hears what is told."""
 
@@ -444,8 +472,10 @@ class Hears(Node):
         return [(node, ask) for node, ask in json.loads(self._read("fdbrec_next"))]
 
 
-class Cell(Asked):
+class Cell(Saved):
     """The cell of a coordinator: it promises ballots, and keeps the value of the last write. It was never asked."""
+
+    _RESTORE = "fdbrec_cell_restore"
 
     def __init__(self) -> None:
         super().__init__("fdbrec_cell_new")
@@ -463,8 +493,10 @@ class Cell(Asked):
         self._call("fdbrec_cell_write", *_within(ballot=ballot), value, len(value), number)
 
 
-class Log(Asked):
+class Log(Saved):
     """Log `index` of a generation of `m` logs, on `k` of which each tag stands. It was never asked."""
+
+    _RESTORE = "fdbrec_log_restore"
 
     def __init__(self, epoch: int, index: int, m: int, k: int) -> None:
         super().__init__("fdbrec_log_new", *_within(epoch=epoch, index=index, m=m, k=k))

@@ -69,6 +69,33 @@ class Calls(unittest.TestCase):
                     storage.read(shard, key, version)
             self.assertEqual(storage.last(), was)
 
+    def test_what_is_saved_is_restored(self):
+        with library.Cell() as cell, begun() as log, library.Sequencer(257, 1) as sequencer:
+            cell.write(257, b"x")
+            cell.read(513)
+            for version in range(2, 20):
+                log.push(257, version - 1, version, 1, 0, Batch().set(b"a", b"7" * 4096))
+            log.ask({"log": {"lock": {"epoch": 257}}})
+            saved, long = cell.save(), log.save()
+            # front, promised, written, value, and the CRC32C of all these by another program
+            front = "666462726563730101"
+            self.assertEqual(saved.hex(), f"{front}0000000000000201000000000000010178" "55704712")
+            with library.Cell.restored(saved) as again:
+                self.assertIsNone(again.answer())
+                self.assertEqual((again.last(), again.save()), (cell.last(), saved))
+                self.assertRaises(library.Refused, again.read, 512)
+            with library.Log.restored(long) as again:
+                self.assertEqual((again.last(), again.save()), (log.last(), long))
+                self.assertEqual(len(again.peek(257, 0, 1, 100).records), 18)
+                self.assertRaises(library.Refused, again.push, 257, 19, 20, 1, 0, Batch())
+            self.assertRaises(library.BadText, library.Cell.restored, long)
+            self.assertRaises(library.BadText, library.Log.restored, saved)
+            for at in range(len(saved)):
+                damaged = saved[:at] + bytes([saved[at] ^ 1]) + saved[at + 1 :]
+                self.assertRaises(library.BadText, library.Cell.restored, damaged)
+                self.assertRaises(library.BadText, library.Cell.restored, saved[:at])
+            self.assertFalse(hasattr(sequencer, "save"))
+
     def test_what_is_not_done_says_why(self):
         with library.Cell() as cell:
             cell.write(513, b"x")

@@ -106,6 +106,7 @@ static void of_none(void)
     IS(fdbrec_answer(&none, out, room, &len), FDBREC_EMPTY);
     IS(fdbrec_next(&none, out, room, &len), FDBREC_EMPTY);
     IS(fdbrec_last(&none, out, room, &len), FDBREC_EMPTY);
+    IS(fdbrec_save(&none, out, room, &len), FDBREC_EMPTY);
     IS(fdbrec_cell_read(&none, 513, &number, out, room, &len), FDBREC_EMPTY);
     IS(fdbrec_cell_answer(&none, &number, out, room, &len), FDBREC_EMPTY);
     WITH(value, text("x"), IS(fdbrec_cell_write(&none, 513, value.at, value.size, &number), FDBREC_EMPTY));
@@ -226,6 +227,92 @@ static void logs(void)
     IS(fdbrec_log_peek(&log, PEEK(2, 1), out, room, &len, &upto, &known), FDBREC_OK);
     IS(len, 0);
     fdbrec_free(&log);
+}
+
+/* Saved machines, as docs/FORMATS.md has them; their checksums are those of another program. */
+static const uint8_t CELL[] = {'f', 'd', 'b', 'r', 'e', 'c', 's', 1, 1, 0, 0,    0,    0,    0,    0, 2,
+                               1,   0,   0,   0,   0,   0,   0,   1, 1, 'x', 0x55, 0x70, 0x47, 0x12};
+static const uint8_t NEW_CELL[] = {'f', 'd', 'b', 'r', 'e', 'c', 's', 1, 1, 0, 0,    0,    0,    0, 0,
+                                   0,   0,   0,   0,   0,   0,   0,   0, 0, 0, 0x92, 0x26, 0x4f, 0x28};
+static const uint8_t NEW_LOG[] = {'f', 'd', 'b', 'r', 'e', 'c', 's', 1, 2, 0, 0,    0,    0,    0,    0,   1,
+                                  1,   0,   1,   1,   0,   0,   0,   0, 0, 0, 0,    0,    0xc0, 0x0c, 0x9a, 0x89};
+
+static int is_saved(fdbrec_part **of, const uint8_t *bytes, size_t size)
+{
+    with_room(size - 1);
+    if (fdbrec_save(of, out, room, &len) != FDBREC_SHORT || len != size)
+        return 0;
+    with_room(size);
+    return fdbrec_save(of, out, room, &len) == FDBREC_OK && len == size && memcmp(out, bytes, size) == 0;
+}
+
+/* A log with a seed, a mark, a push and a lock comes back with all of these. */
+static void saved_log(void)
+{
+    fdbrec_part *log = NULL, *again = NULL;
+    uint64_t held = 0, upto = 0, known = 0;
+    IS(fdbrec_log_new(&log, 257, 0, 1, 1), FDBREC_OK);
+    IS(is_saved(&log, NEW_LOG, sizeof NEW_LOG), 1);
+    with_room(64);
+    WITH(line, text(SEED), IS(fdbrec_ask(&log, line.at, line.size, out, room, &len), FDBREC_OK));
+    WITH(line, text(MARK), IS(fdbrec_ask(&log, line.at, line.size, out, room, &len), FDBREC_OK));
+    WITH(batch, SPELLED, IS(fdbrec_log_push(&log, PUSH(1, 2, 1, 0), batch.at, batch.size, &held), FDBREC_OK));
+    WITH(line, text("{\"log\":{\"lock\":{\"epoch\":257}}}"),
+         IS(fdbrec_ask(&log, line.at, line.size, out, room, &len), FDBREC_OK));
+    with_room(0);
+    IS(fdbrec_save(&log, out, room, &len), FDBREC_SHORT);
+    with_room(len);
+    IS(fdbrec_save(&log, out, room, &len), FDBREC_OK);
+    IS(len, 173);
+    WITH(bytes, give(out, len), IS(fdbrec_log_restore(&again, bytes.at, bytes.size), FDBREC_OK));
+    WITH(bytes, give(out, len), {
+        IS(is_saved(&again, bytes.at, bytes.size), 1);
+        IS(fdbrec_cell_restore(&again, bytes.at, bytes.size), FDBREC_BAD_TEXT);
+        for (size_t at = 0; at < bytes.size; at++) {
+            bytes.at[at] ^= 0x81;
+            IS(fdbrec_log_restore(&again, bytes.at, bytes.size), FDBREC_BAD_TEXT);
+            bytes.at[at] ^= 0x81;
+        }
+    });
+    with_room(64);
+    WITH(batch, SPELLED, IS(fdbrec_log_push(&again, PUSH(2, 3, 1, 0), batch.at, batch.size, &held), FDBREC_REFUSED));
+    IS(fdbrec_answer(&again, out, room, &len), FDBREC_OK);
+    IS(says("{\"log\":{\"refused\":{\"why\":{\"stopped\":{}}}}}"), 1);
+    IS(fdbrec_log_peek(&again, PEEK(0, 1), out, room, &len, &upto, &known), FDBREC_OK);
+    IS(upto, 2);
+    IS(known, 1);
+    fdbrec_free(&log);
+    fdbrec_free(&again);
+}
+
+static void saves(void)
+{
+    fdbrec_part *cell = NULL, *again = NULL;
+    uint64_t number = 0;
+    IS(fdbrec_cell_new(&cell), FDBREC_OK);
+    IS(is_saved(&cell, NEW_CELL, sizeof NEW_CELL), 1);
+    with_room(64);
+    WITH(value, text("x"), IS(fdbrec_cell_write(&cell, 257, value.at, value.size, &number), FDBREC_OK));
+    IS(fdbrec_cell_read(&cell, 513, &number, out, room, &len), FDBREC_OK);
+    IS(is_saved(&cell, CELL, sizeof CELL), 1);
+    WITH(bytes, give(CELL, sizeof CELL), {
+        IS(fdbrec_log_restore(&again, bytes.at, bytes.size), FDBREC_BAD_TEXT);
+        IS(again, NULL);
+        IS(fdbrec_cell_restore(&again, bytes.at, bytes.size), FDBREC_OK);
+        for (size_t size = 0; size < bytes.size; size++)
+            WITH(part, give(bytes.at, size), IS(fdbrec_cell_restore(&cell, part.at, part.size), FDBREC_BAD_TEXT));
+    });
+    with_room(64);
+    IS(fdbrec_answer(&again, out, room, &len), FDBREC_OK);
+    IS(says("null"), 1);
+    IS(fdbrec_cell_read(&again, 512, &number, out, room, &len), FDBREC_REFUSED);
+    IS(number, 513);
+    IS(is_saved(&again, CELL, sizeof CELL), 1);
+    IS(fdbrec_store_new(&again), FDBREC_OK);
+    IS(fdbrec_save(&again, out, room, &len), FDBREC_KIND);
+    fdbrec_free(&cell);
+    fdbrec_free(&again);
+    saved_log();
 }
 
 static void proxies(void)
@@ -490,6 +577,7 @@ int main(int count, char **words)
     of_none();
     cells();
     logs();
+    saves();
     proxies();
     recoverers();
     storages();

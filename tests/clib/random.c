@@ -16,7 +16,7 @@ int LLVMFuzzerTestOneInput(const uint8_t *data, size_t size);
 enum { ROOM = 1 << 16, GUARD = 16, STATUSES = 15 };
 
 static unsigned long count[STATUSES];
-static uint8_t out[ROOM + GUARD], before[ROOM], after[ROOM];
+static uint8_t out[ROOM + GUARD], before[ROOM], after[ROOM], sealed[ROOM + 16];
 
 #define MUST(what)                                                                                                     \
     do {                                                                                                               \
@@ -25,6 +25,25 @@ static uint8_t out[ROOM + GUARD], before[ROOM], after[ROOM];
             abort();                                                                                                   \
         }                                                                                                              \
     } while (0)
+
+/* The bytes of a saved machine with these contents: damage is to be seen by more than the checksum. */
+static size_t seal(uint8_t kind, const uint8_t *text, size_t size)
+{
+    static const uint8_t front[] = {'f', 'd', 'b', 'r', 'e', 'c', 's', 1};
+    size_t whole = sizeof front + 1 + size;
+    uint32_t sum = UINT32_MAX;
+    memcpy(sealed, front, sizeof front);
+    sealed[sizeof front] = kind;
+    memcpy(sealed + sizeof front + 1, text, size);
+    for (size_t at = 0; at < whole; at++) {
+        sum ^= sealed[at];
+        for (int bit = 0; bit < 8; bit++)
+            sum = sum >> 1 ^ (sum & 1 ? 0x82f63b78 : 0);
+    }
+    for (int at = 0; at < 4; at++)
+        sealed[whole + (size_t)at] = (uint8_t)(~sum >> (24 - 8 * at));
+    return whole + 4;
+}
 
 static uint32_t make(fdbrec_part **of, char kind, uint64_t number, const uint8_t *text, size_t size)
 {
@@ -35,6 +54,8 @@ static uint32_t make(fdbrec_part **of, char kind, uint64_t number, const uint8_t
     case 'p': return fdbrec_proxy_new(of, &(fdbrec_proxy_numbers){257, number, 0, 2, 1}, text, size);
     case 'r': return fdbrec_recoverer_new(of, 513, number, text, size, 0, 0);
     case 's': return fdbrec_storage_new(of, number, text, size);
+    case 'C': return fdbrec_cell_restore(of, sealed, seal(1, text, size));
+    case 'L': return fdbrec_log_restore(of, sealed, seal(2, text, size));
     default: return fdbrec_store_new(of);
     }
 }
@@ -61,6 +82,7 @@ static uint32_t call(fdbrec_part **of, char kind, uint64_t number, const uint8_t
         return fdbrec_storage_read(
             of, &(fdbrec_key_at){text, 0, text + size / 2, size - size / 2, text, size / 2, number}, out, room, len);
     case 'd': return fdbrec_audit(text, size, out, room, len);
+    case 'v': return fdbrec_save(of, out, room, len);
     default: return fdbrec_answer(of, out, room, len);
     }
 }
@@ -70,6 +92,16 @@ static size_t stands(fdbrec_part **of, uint8_t *into)
 {
     size_t len = 0;
     return fdbrec_last(of, into, ROOM, &len) == FDBREC_OK ? len : 0;
+}
+
+/* What is saved is restored, in place of the machine that was saved, and is saved as the same bytes. */
+static void saves(fdbrec_part **of, size_t size)
+{
+    size_t len = 0, was = stands(of, before);
+    MUST(fdbrec_save(of, sealed, ROOM, &len) == FDBREC_OK && len == size);
+    MUST(fdbrec_cell_restore(of, sealed, size) == FDBREC_OK || fdbrec_log_restore(of, sealed, size) == FDBREC_OK);
+    MUST(stands(of, after) == was && memcmp(before, after, was) == 0);
+    MUST(fdbrec_save(of, out, ROOM, &len) == FDBREC_OK && len == size && memcmp(sealed, out, size) == 0);
 }
 
 static void turn(fdbrec_part **of, const uint8_t *line, size_t size)
@@ -92,6 +124,8 @@ static void turn(fdbrec_part **of, const uint8_t *line, size_t size)
     if (status == FDBREC_KIND || status == FDBREC_REFUSED || status == FDBREC_LIMIT || status == FDBREC_BAD_TEXT ||
         status > FDBREC_TWO_VALUES)
         MUST(line[0] == 'd' || (stands(of, after) == was && memcmp(before, after, was) == 0));
+    if (status == FDBREC_SHORT && line[0] == 'v' && len <= ROOM)
+        saves(of, len);
     if (status == FDBREC_SHORT && (line[0] == 'a' || line[0] == 'h' || line[0] == 'b')) {
         size_t wanted = len;
         MUST(fdbrec_answer(of, out, ROOM, &len) == FDBREC_OK && len == wanted);

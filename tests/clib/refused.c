@@ -39,7 +39,9 @@ void *__wrap_realloc(void *at, size_t size)
 }
 
 enum { CELL, LOG, SEQUENCER, PROXY, RECOVERER, STORAGE, STORE, MACHINES };
-enum kind { MAKE, ASK, HEAR, NEXT, LAST, SUBMIT, READ, WRITE, PUSH, PEEK, APPLY, UNDO, FORGET, GET, READ_AT, AUDIT };
+enum kind {
+    MAKE, ASK, HEAR, NEXT, LAST, SUBMIT, READ, WRITE, PUSH, PEEK, APPLY, UNDO, FORGET, GET, READ_AT, AUDIT, SAVE, RESTORE
+};
 
 struct step {
     enum kind kind;
@@ -55,6 +57,9 @@ struct answer {
 };
 
 static fdbrec_part *parts[MACHINES];
+
+/* What the last SAVE left. */
+static struct answer saved;
 
 /* Batch number n: it sets key n mod 7 to 60 bytes. */
 static size_t batch(uint64_t n, uint8_t *into)
@@ -118,6 +123,15 @@ static void call(const struct step *it, struct answer *told)
         break;
     case GET: told->status = fdbrec_store_get(of, text, size, told->out, room, &told->len); break;
     case AUDIT: told->status = fdbrec_audit(text, size, told->out, room, &told->len); break;
+    case SAVE:
+        told->status = fdbrec_save(of, told->out, room, &told->len);
+        if (told->status == FDBREC_OK)
+            saved = *told;
+        break;
+    case RESTORE:
+        told->status = it->machine == CELL ? fdbrec_cell_restore(of, saved.out, saved.len)
+                                           : fdbrec_log_restore(of, saved.out, saved.len);
+        break;
     }
     if (told->status != FDBREC_OK && told->status != FDBREC_REFUSED)
         told->len = 0;
@@ -144,6 +158,7 @@ static const struct step STORY[] = {
     {READ, CELL, NULL, 514},
     {READ, CELL, NULL, 513},
     {LAST, CELL, NULL, 0},
+    {SAVE, CELL, NULL, 0}, {RESTORE, CELL, NULL, 0}, {LAST, CELL, NULL, 0},
     {MAKE, LOG, NULL, 0},
     {ASK, LOG, "{\"log\":{\"seed\":{\"epoch\":257,\"first\":1,\"records\":[],\"seeded_to\":0}}}", 0},
     {ASK, LOG,
@@ -155,6 +170,7 @@ static const struct step STORY[] = {
     {ASK, LOG, "{\"log\":{\"pop\":{\"epoch\":257,\"tag\":0,\"through\":1}}}", 0},
     {ASK, LOG, "{\"log\":{\"lock\":{\"epoch\":257}}}", 0},
     {LAST, LOG, NULL, 0},
+    {SAVE, LOG, NULL, 0}, {RESTORE, LOG, NULL, 0}, {LAST, LOG, NULL, 0}, {SAVE, LOG, NULL, 0}, {PEEK, LOG, NULL, 2},
     {MAKE, SEQUENCER, NULL, 0},
     {ASK, SEQUENCER, "{\"seq\":{\"next\":{\"proxy\":0,\"request\":1,\"step\":1}}}", 0},
     {ASK, SEQUENCER, "{\"seq\":{\"next\":{\"proxy\":3,\"request\":1,\"step\":1}}}", 0},

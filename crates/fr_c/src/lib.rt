@@ -20,6 +20,7 @@ mod audits;
 mod cells;
 mod logs;
 mod making;
+mod saving;
 mod storages;
 mod stores;
 mod turns;

@@ -19,7 +19,7 @@ use std::alloc::Global;
 
 /// Puts a machine that took no turn into a handle. What the handle had before is freed, if there is memory for this
 /// one.
-fn put(alloc: Global, of: &mut Handle, part: Part) -> u32
+pub(crate) fn put(alloc: Global, of: &mut Handle, part: Part) -> u32
     ensures made { IsMade result of.old.value of.new.value part }
     ensures status { result ≢ 1 → result ≡ 0 }
 {

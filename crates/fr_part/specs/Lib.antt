@@ -8,6 +8,7 @@ pub mod LineCalls
 pub mod Made
 pub mod ReadCalls
 pub mod Reads
+pub mod Saved
 pub mod Seat
 pub mod Store
 pub mod Turn

@@ -8,9 +8,9 @@ use crate::fault::PartFault;
 use crate::part::Part;
 use fr_ask::{Ask, Tell};
 use fr_base::Machine;
-use fr_log::Log;
 use fr_proxy::Sequencer;
 use fr_register::Cell;
+use fr_saved::SettledLog;
 use std::alloc::Global;
 
 impl Part {
@@ -51,7 +51,7 @@ fn ask_cell(alloc: Global, cell: &mut Cell, ask: Ask) -> Result<Tell, PartFault>
     }
 }
 
-fn ask_log(alloc: Global, log: &mut Log, ask: Ask) -> Result<Tell, PartFault>
+fn ask_log(alloc: Global, log: &mut SettledLog, ask: Ask) -> Result<Tell, PartFault>
     ensures told { IfOk result (λ tell. log_told log.old ask ≡ Some tell) }
     ensures after { IfOk result (λ _. log.new ≡ log_after log.old ask) }
     ensures err { OnErr result (log.new ≡ log.old) }

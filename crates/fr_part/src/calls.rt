@@ -8,6 +8,7 @@ pub mod logs;
 pub mod making;
 mod numbers;
 mod reading;
+pub mod saving;
 pub mod status;
 pub mod storages;
 pub mod stores;

@@ -1,8 +1,8 @@
 //! A machine of any kind.
 use fr_epoch::Recoverer;
-use fr_log::Log;
 use fr_proxy::{Proxy, Sequencer};
 use fr_register::Cell;
+use fr_saved::SettledLog;
 use fr_storage::Storage;
 use fr_undo::MapStore;
 
@@ -11,8 +11,8 @@ use fr_undo::MapStore;
 pub enum Part {
     /// The cell of a coordinator.
     Cell(Cell),
-    /// A log of a generation.
-    Log(Log),
+    /// A log of a generation, which can be saved at any time.
+    Log(SettledLog),
     /// The sequencer of an epoch.
     Sequencer(Sequencer),
     /// A proxy of a generation.

@@ -25,7 +25,7 @@ impl Part {
     {
         match self {
             Part::Cell(cell) => told(cell.last(alloc)),
-            Part::Log(log) => told(log.last(alloc)),
+            Part::Log(log) => told(log.log().last(alloc)),
             Part::Sequencer(sequencer) => told(Named::last(sequencer, alloc)),
             Part::Proxy(proxy) => Ok(last_of_proxy(proxy)),
             Part::Recoverer(recoverer) => told(last_of_recoverer(alloc, recoverer)),

@@ -118,6 +118,9 @@ extern "C" {
     pub fn fdbrec_answer(of: *mut *mut fdbrec_part, out: *mut u8, out_len: usize, len: *mut usize) -> u32;
     pub fn fdbrec_next(of: *mut *mut fdbrec_part, out: *mut u8, out_len: usize, len: *mut usize) -> u32;
     pub fn fdbrec_last(of: *mut *mut fdbrec_part, out: *mut u8, out_len: usize, len: *mut usize) -> u32;
+    pub fn fdbrec_save(of: *mut *mut fdbrec_part, out: *mut u8, out_len: usize, len: *mut usize) -> u32;
+    pub fn fdbrec_cell_restore(of: *mut *mut fdbrec_part, bytes: *const u8, bytes_len: usize) -> u32;
+    pub fn fdbrec_log_restore(of: *mut *mut fdbrec_part, bytes: *const u8, bytes_len: usize) -> u32;
     pub fn fdbrec_cell_read(
         of: *mut *mut fdbrec_part,
         ballot: u64,

@@ -1,6 +1,6 @@
 use crate::fault::{Fault, Result};
 use fdbrec_sys::{self as sys, fdbrec_part};
-use std::ptr;
+use std::{mem, ptr};
 
 /// What every machine has.
 pub trait Machine {
@@ -19,6 +19,9 @@ pub trait Machine {
         self.handle().read(|at, room| unsafe { sys::fdbrec_answer(at, room.at(), room.size(), room.used()) })
     }
 }
+
+/// How much room a handle begins with.
+const ROOM: usize = 512;
 
 /// A pointer of the library, held here alone, and room for what calls leave.
 #[derive(Debug)]
@@ -62,7 +65,7 @@ impl Room {
 impl Handle {
     /// A machine that a call makes. The call gives the pointer to the library, and to nobody else.
     pub(crate) fn new(make: impl FnOnce(*mut *mut fdbrec_part) -> u32) -> Result<Self> {
-        let mut handle = Handle { at: ptr::null_mut(), room: Room { bytes: vec![0; 512], used: 0 } };
+        let mut handle = Handle { at: ptr::null_mut(), room: Room { bytes: vec![0; ROOM], used: 0 } };
         Fault::check(make(&mut handle.at))?;
         Ok(handle)
     }
@@ -76,6 +79,14 @@ impl Handle {
     /// The call gives pointer and room to the library, and to nobody else.
     pub(crate) fn read(&mut self, call: impl Fn(*mut *mut fdbrec_part, &mut Room) -> u32) -> Result<String> {
         self.bytes(&call, &call).map(text).map_err(Fault::of)
+    }
+
+    /// The bytes that a call leaves which changes nothing. They may be many, so the handle gives its room away with them.
+    pub(crate) fn taken(&mut self, call: impl Fn(*mut *mut fdbrec_part, &mut Room) -> u32) -> Result<Vec<u8>> {
+        self.bytes(&call, &call).map_err(Fault::of)?;
+        let mut bytes = mem::replace(&mut self.room.bytes, vec![0; ROOM]);
+        bytes.truncate(self.room.used);
+        Ok(bytes)
     }
 
     /// A turn that leaves a text. It is done also if the text does not fit, or there was no memory for it: so the text

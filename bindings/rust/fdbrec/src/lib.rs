@@ -32,5 +32,5 @@ pub use fault::{Fault, Result};
 pub use handle::Machine;
 pub use lines::{Asks, Heard};
 pub use log::{Log, Peeked, Record, Records};
-pub use machines::{Asked, Cell, Hears, Promise, Proxy, Recoverer, Sequencer, Storage};
+pub use machines::{Asked, Cell, Hears, Promise, Proxy, Recoverer, Saved, Sequencer, Storage};
 pub use store::Store;

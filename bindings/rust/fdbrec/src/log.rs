@@ -1,7 +1,7 @@
 use crate::batch::{size_of_batch, Batch};
 use crate::fault::{Fault, Result};
 use crate::handle::{Handle, Machine};
-use crate::machines::{machines, Asked};
+use crate::machines::{machines, Asked, Saved};
 use fdbrec_sys as sys;
 use std::iter::FusedIterator;
 
@@ -61,6 +61,13 @@ impl Log {
             |at, room| unsafe { sys::fdbrec_log_answer(at, room.at(), room.size(), room.used(), &mut 0, &mut 0) },
         );
         left.map(|left| Peeked { upto, known, records: Records { left } }).map_err(Fault::of)
+    }
+}
+
+impl Saved for Log {
+    fn restored(saved: &[u8]) -> Result<Self> {
+        // SAFETY: the handle is new, and its own; the bytes are another one's.
+        Handle::new(|at| unsafe { sys::fdbrec_log_restore(at, saved.as_ptr(), saved.len()) }).map(Log)
     }
 }
 

@@ -46,6 +46,19 @@ pub trait Asked: Machine {
     }
 }
 
+/// A machine whose whole state can be saved.
+pub trait Saved: Asked + Sized {
+    /// The machine's whole state, of which `restored` makes the machine again. It changes nothing, and costs what the state
+    /// takes.
+    fn save(&mut self) -> Result<Vec<u8>> {
+        // SAFETY: see `Handle::read`.
+        self.handle().taken(|at, room| unsafe { sys::fdbrec_save(at, room.at(), room.size(), room.used()) })
+    }
+
+    /// The machine that was saved as these bytes, or `BadText` if they are none of its kind. It took no turn yet.
+    fn restored(saved: &[u8]) -> Result<Self>;
+}
+
 /// A machine that asks, and hears what is told.
 pub trait Hears: Machine {
     /// Hears what a node tells.
@@ -95,6 +108,13 @@ impl Cell {
         let mut number = 0;
         // SAFETY: as in `read`.
         self.0.call(|at| unsafe { sys::fdbrec_cell_write(at, ballot, value.as_ptr(), value.len(), &mut number) })
+    }
+}
+
+impl Saved for Cell {
+    fn restored(saved: &[u8]) -> Result<Self> {
+        // SAFETY: the handle is new, and its own; the bytes are another one's.
+        Handle::new(|at| unsafe { sys::fdbrec_cell_restore(at, saved.as_ptr(), saved.len()) }).map(Cell)
     }
 }
 

@@ -1,6 +1,7 @@
 //! Calls whose answers are long, calls that are not done, and machines that go to another thread.
 use fdbrec::{
-    audit, version, Asked, Batch, Cell, Fault, Hears, Log, Machine, Mutation, Mutations, Promise, Proxy, Storage, Store,
+    audit, version, Asked, Batch, Cell, Fault, Hears, Log, Machine, Mutation, Mutations, Promise, Proxy, Saved, Storage,
+    Store,
 };
 use std::thread;
 
@@ -42,6 +43,38 @@ fn long_answers_are_fetched() {
         assert_eq!(record.version, version);
         let set = Mutation::Set { key: b"a", value: &long };
         assert_eq!(Mutations::of(record.batch).collect::<Vec<_>>(), [set]);
+    }
+}
+
+#[test]
+fn what_is_saved_is_restored() {
+    let mut cell = Cell::new().unwrap();
+    cell.write(257, b"x").unwrap();
+    cell.read(513).unwrap();
+    let saved = cell.save().unwrap();
+    let mut again = Cell::restored(&saved).unwrap();
+    assert_eq!(again.answer().as_deref(), Ok("null"));
+    assert_eq!((again.last(), again.save()), (cell.last(), Ok(saved.clone())));
+    assert_eq!(again.read(512), Err(Fault::Refused));
+
+    let mut log = begun();
+    for version in 2..20 {
+        log.push(257, version - 1, version, 1, 0, &Batch::new().set(b"a", &[7; 4096])).unwrap();
+    }
+    log.ask(r#"{"log":{"lock":{"epoch":257}}}"#).unwrap();
+    let long = log.save().unwrap();
+    let mut again = Log::restored(&long).unwrap();
+    assert_eq!((again.last(), again.save()), (log.last(), Ok(long.clone())));
+    assert_eq!(again.peek(257, 0, 1, 100).unwrap().records.count(), 18);
+    assert_eq!(again.push(257, 19, 20, 1, 0, &Batch::new()), Err(Fault::Refused));
+
+    assert_eq!(Cell::restored(&long).err(), Some(Fault::BadText));
+    assert_eq!(Log::restored(&saved).err(), Some(Fault::BadText));
+    for at in 0..saved.len() {
+        let mut damaged = saved.clone();
+        damaged[at] ^= 1;
+        assert_eq!(Cell::restored(&damaged).err(), Some(Fault::BadText));
+        assert_eq!(Cell::restored(&saved[..at]).err(), Some(Fault::BadText));
     }
 }
 

@@ -13,8 +13,8 @@ use crate::part::Part;
 use fr_base::{Ballot, Epoch, LogId, Version};
 use fr_epoch::Recoverer;
 use fr_forms::ScriptFault;
-use fr_log::Log;
 use fr_proxy::{Proxy, Sequencer};
+use fr_saved::SettledLog;
 use fr_storage::Storage;
 use fr_tags::ShardMap;
 use fr_undo::MapStore;
@@ -50,7 +50,7 @@ pub fn make_log(alloc: Global, epoch: u64, index: u64, m: u64, k: u64) -> Result
         return Err(LIMIT);
     }
     let id = LogId { epoch, index };
-    Ok(Part::Log(Log::new(alloc, id, shape.m(), shape.k())))
+    Ok(Part::Log(SettledLog::fresh(alloc, id, shape.m(), shape.k())))
 }
 
 /// A sequencer that gave nothing yet. An error is as that of [`make_log`].
